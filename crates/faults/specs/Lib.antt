@@ -1,0 +1,4 @@
+pub mod Faults
+pub mod Least
+pub mod Places
+pub mod Questions

@@ -1,0 +1,3 @@
+pub mod Headers
+mod Pairs
+mod Stamps

@@ -1,0 +1,5 @@
+pub mod Headed
+pub mod Laws
+pub mod Pair
+pub mod Stamped
+pub mod Stored

@@ -1,0 +1,35 @@
+-- A framing below a stamp.
+use mathlib.Core.List.{List, [], _∷_}
+use mathlib.Core.Bool.{Bool, cond, _&&_}
+use Prim.Native.Nat.{ℕ, _+_, _-_, _^_, min}
+use lib.ListN.{length, getD, drop}
+use lib.Dec.{ltb, eqb}
+use Rattle.framing.specs.declared.verdict.Verdict.{Verdict}
+use Rattle.framing.specs.declared.verdict.Verdict.the-variants.{Sound, Short, Unfit}
+use Rattle.framing.specs.Stored.{word}
+
+-- the largest number that code can tell
+abbrev pub most : ℕ
+most = 2 ^ 64 - 1
+
+-- nine more, or the largest number where that would pass it
+abbrev pub nineMore : ℕ → ℕ
+nineMore n = min (n + 9) most
+
+-- a stamp: the mark 4C 4F 47, the version 1 as a 16-bit number, and 32 bits of seconds, which may be any
+unfoldable pub isStamp : List ℕ → Bool
+isStamp run =
+    eqb (getD run 0 0) 0x4c && (eqb (getD run 1 0) 0x4f && (eqb (getD run 2 0) 0x47 && eqb (word run 3) 1))
+
+-- the verdict on what follows a stamp, as one on the stamp and what follows
+abbrev pub behindStamp : Verdict → Verdict
+behindStamp (Sound n) = Sound (nineMore n)
+behindStamp (Short m) = Short (nineMore m)
+behindStamp Unfit = Unfit
+
+-- the verdict on a run of `present` bytes that begins with a stamp or not, by the verdict on what follows nine bytes
+abbrev pub stampedBy : ℕ → Bool → Verdict → Verdict
+stampedBy present stamp behind = cond (ltb present 9) (Short 9) (cond stamp (behindStamp behind) Unfit)
+
+abbrev pub stamped : (List ℕ → Verdict) → List ℕ → Verdict
+stamped below run = stampedBy (length run) (isStamp run) (below (drop 9 run))

@@ -1,0 +1,5 @@
+mod Ensembles
+mod Headers
+mod Layers
+mod Places
+mod Tables

@@ -1,0 +1,9 @@
+pub mod Ensembles
+pub mod Held
+pub mod Kinds
+pub mod Lawful
+pub mod Layout
+pub mod Questions
+pub mod Right
+pub mod Sections
+pub mod Verdicts
