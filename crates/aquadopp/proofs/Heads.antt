@@ -2,14 +2,14 @@
 use mathlib.Core.Path.{_≡_, sym, ap, subst, _∙_}
 use mathlib.Core.Bool.{true, false}
 use mathlib.Core.List.{List, [], _∷_, _++_}
-use Prim.Native.Nat.{ℕ, _≤_, _<_}
+use Prim.Native.Nat.{ℕ, _≤_, _<_, _^_}
 use native.Mathlib.Omega.{arith}
 use lib.Dec.{leb, eqb}
 use lib.ListN.{length, take, drop}
 use Rattle.std.proofs.shelf.Tests.{le-leb, ne-eqb}
 use Rattle.std.proofs.shelf.Ways.{tells}
 use Rattle.std.proofs.shelf.Lists.{getD-append-left, length-append, length-take-le, take-append-drop}
-use Rattle.std.specs.declared.option.Option.the-variants.{Some, None}
+use Rattle.std.specs.declared.option.Option.the-variants.{Some}
 use Rattle.faults.proofs.Asked.{refused-at}
 use Rattle.faults.specs.declared.frame.FrameFault.the-variants.{StructureLength, StructureChecksum}
 use Rattle.faults.specs.Least.{orElse}
@@ -19,7 +19,7 @@ use Rattle.framing.specs.Laws.{Lawful}
 use Rattle.aquadopp.specs.Structures.{headQuestions, opened, idOf, isSealed, sizeTold, longestSize}
 use Rattle.aquadopp.specs.Verdicts.{fit, whole, judgedRun}
 
-sized : (xs : List ℕ) → 4 ≤ length xs → fit xs ≡ true → (1 ≤ sizeTold xs) × (sizeTold xs ≤ longestSize)
+pub sized : (xs : List ℕ) → 4 ≤ length xs → fit xs ≡ true → (1 ≤ sizeTold xs) × (sizeTold xs ≤ longestSize)
 unfolding fit
 sized xs h e = (grind (arith, tells), grind (arith, tells))
 
@@ -36,15 +36,18 @@ head-seen xs more h =
       getD-append-left xs more 0 3 (omega arith),
     )
 
-seen : (xs more : List ℕ) → 4 ≤ length xs → (fit (xs ++ more) ≡ fit xs) × (sizeTold (xs ++ more) ≡ sizeTold xs)
+pub seen : (xs more : List ℕ) → 4 ≤ length xs → (fit (xs ++ more) ≡ fit xs) × (sizeTold (xs ++ more) ≡ sizeTold xs)
 unfolding fit
 seen xs more h = (
   ap (λ os. allYes (firstOf os)) (head-seen xs more h),
   rw (getD-append-left xs more 0 2 (omega arith), getD-append-left xs more 0 3 (omega arith)),
 )
 
+pub range : (1 ≤ 4) × (4 ≤ longestSize) × (longestSize < 2 ^ 64)
+range = (omega arith, omega arith, omega arith)
+
 pub aquadopp-lawful : Lawful judgedRun longestSize
-aquadopp-lawful = headed-lawful 4 fit sizeTold whole longestSize (omega arith, omega arith, omega arith) sized seen
+aquadopp-lawful = headed-lawful 4 fit sizeTold whole longestSize range sized seen
 
 -- a run that is longer than any structure has a length that is not the told one
 too-long : (xs : List ℕ) → longestSize < length xs → opened xs ≡ answered (orElse (firstOf (headQuestions xs)) (Some StructureLength)) (idOf xs)

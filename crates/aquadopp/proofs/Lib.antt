@@ -1,1 +1,3 @@
 mod Heads
+mod Opened
+mod Sounds

@@ -1,7 +1,6 @@
 ghost use mathlib.Core.Path.{_≡_};
-ghost use mathlib.Core.Bool.{cond};
-ghost use Rattle.std.specs.declared.option.Option.the-variants.{Some, None};
-ghost use Rattle.aquadopp.specs.Structures.{sizeTold, longestSize};
+ghost use Rattle.framing.specs.Headed.{headWants, Sound-exactly};
+ghost use Rattle.aquadopp.specs.Structures.{sizeTold, longestSize, Is-structure};
 ghost use Rattle.aquadopp.specs.Verdicts.{fit, whole, judgedRun};
 use crate::structure::HEAD_SIZE;
 use crate::structure::check;
@@ -12,13 +11,18 @@ use framing::verdict::Verdict;
 // The bytes of the longest structure.
 pub const LONGEST: usize = 42;
 
-// The size in bytes that a right head tells.
-fn size_wanted(run: &[u8]) -> Option<usize>
-    ensures { λ r. ⌜ r ≡ cond (fit (now (run .entry))) (Some (sizeTold (now (run .entry)))) None ⌝ }
+// The size in bytes that a right head tells, or the verdict that no more than
+// the head is needed for.
+fn size_wanted(run: &[u8]) -> Result<usize, Verdict>
+    ensures value { λ r. ⌜ r ≡ headWants 4 fit sizeTold (now (run .entry)) ⌝ }
+    ensures exactly { λ _. ⌜ Sound-exactly judgedRun Is-structure (now (run .entry)) ⌝ }
 {
+    if run.len() < HEAD_SIZE {
+        return Err(Verdict::Short(HEAD_SIZE));
+    }
     match told_size(run) {
-        Ok(size) => Some(size),
-        Err(_) => None,
+        Ok(size) => Ok(size),
+        Err(_) => Err(Verdict::Unfit),
     }
 }
 
@@ -38,12 +42,13 @@ pub impl Framing for Aquadopp as AquadoppFraming {
 
     ghost reach = { λ _. longestSize };
 
-    fn judge(&self, run: &[u8]) -> Verdict {
-        if run.len() < HEAD_SIZE {
-            return Verdict::Short(HEAD_SIZE);
-        }
-        let Some(size) = size_wanted(run) else {
-            return Verdict::Unfit;
+    fn judge(&self, run: &[u8]) -> Verdict
+        ensures verdict { λ r. ⌜ r ≡ judgedRun (now (run .entry)) ⌝ }
+        ensures exactly { λ _. ⌜ Sound-exactly judgedRun Is-structure (now (run .entry)) ⌝ }
+    {
+        let size = match size_wanted(run) {
+            Ok(size) => size,
+            Err(verdict) => return verdict,
         };
         if run.len() < size {
             return Verdict::Short(size);

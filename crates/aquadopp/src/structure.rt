@@ -1,11 +1,9 @@
 ghost use mathlib.Core.Path.{_≡_};
-ghost use Prim.Native.Nat.{_+_, _*_, _-_, _≤_};
-ghost use lib.ListN.{length, getD, take};
-ghost use lib.Dec.{eqb};
-ghost use Rattle.faults.specs.Questions.{answered, firstOf, In-order, Decided-beyond};
-ghost use Rattle.framing.specs.Stored.{word, sealed};
+ghost use Prim.Native.Nat.{_≤_};
+ghost use lib.ListN.{length};
 ghost use Rattle.std.specs.Vec.{made};
-ghost use Rattle.aquadopp.specs.Structures.{agrees, sizeTold, headed, isSealed, opened, questions, longestSize};
+ghost use Rattle.faults.specs.Questions.{answered, firstOf};
+ghost use Rattle.aquadopp.specs.Structures.{agrees, headTold, structureSum, isSealed, questions, opened, Opening-laws};
 use faults::frame::FrameFault;
 use framing::checksum::checksum_from;
 
@@ -13,7 +11,7 @@ use framing::checksum::checksum_from;
 pub(crate) const HEAD_SIZE: usize = 4;
 
 // The first byte of every structure.
-const SYNC: u8 = 0xa5;
+pub const SYNC: u8 = 0xa5;
 
 // What the checksum starts from.
 const CHECKSUM_START: u16 = 0xb58c;
@@ -31,8 +29,8 @@ fn is_size_of(words: u16, id: u8) -> bool
 
 // The size in bytes that the head tells, where sync, id and size are right.
 pub(crate) fn told_size(bytes: &[u8]) -> Result<usize, FrameFault>
-    ensures value { λ r. ⌜ r ≡ headed (now (bytes .entry)) ⌝ }
-    ensures range { λ r. ⌜ made r (λ n. (36 ≤ n) × (n ≤ 42) × (4 ≤ length (now (bytes .entry)))) ⌝ }
+    ensures value { λ r. ⌜ r ≡ headTold (now (bytes .entry)) ⌝ }
+    ensures range { λ r. ⌜ made r (λ n. (2 ≤ n) × (4 ≤ length (now (bytes .entry)))) ⌝ }
 {
     if bytes.len() < HEAD_SIZE {
         return Err(FrameFault::NoStructure);
@@ -49,7 +47,7 @@ pub(crate) fn told_size(bytes: &[u8]) -> Result<usize, FrameFault>
 
 // The checksum of all bytes before it.
 pub fn checksum(bytes: &[u8]) -> u16
-    ensures { λ r. ⌜ r ≡ sealed 0xb58c (now (bytes .entry)) ⌝ }
+    ensures { λ r. ⌜ r ≡ structureSum (now (bytes .entry)) ⌝ }
 {
     checksum_from(CHECKSUM_START, bytes)
 }
@@ -66,8 +64,7 @@ fn is_sealed(bytes: &[u8]) -> bool
 // Asks every question of a structure.
 pub(crate) fn check(bytes: &[u8]) -> Result<(), FrameFault>
     ensures value { λ r. ⌜ r ≡ answered (firstOf (questions (now (bytes .entry)))) tt ⌝ }
-    ensures order { λ _. ⌜ In-order (questions (now (bytes .entry))) (opened (now (bytes .entry))) ⌝ }
-    ensures beyond { λ _. ⌜ Decided-beyond longestSize opened (now (bytes .entry)) ⌝ }
+    ensures laws { λ _. ⌜ Opening-laws (now (bytes .entry)) ⌝ }
     ensures room { λ r. ⌜ made r (λ _. 4 ≤ length (now (bytes .entry))) ⌝ }
 {
     let size = told_size(bytes)?;
@@ -84,8 +81,7 @@ pub(crate) fn check(bytes: &[u8]) -> Result<(), FrameFault>
 // answered by no.
 pub fn open(bytes: &[u8]) -> Result<u8, FrameFault>
     ensures value { λ r. ⌜ r ≡ opened (now (bytes .entry)) ⌝ }
-    ensures order { λ _. ⌜ In-order (questions (now (bytes .entry))) (opened (now (bytes .entry))) ⌝ }
-    ensures beyond { λ _. ⌜ Decided-beyond longestSize opened (now (bytes .entry)) ⌝ }
+    ensures laws { λ _. ⌜ Opening-laws (now (bytes .entry)) ⌝ }
 {
     check(bytes)?;
     Ok(bytes[1])

@@ -1,5 +1,5 @@
 -- Laws of questions that are asked in order.
-use mathlib.Core.Path.{_≡_, refl, sym, ap, _∙_}
+use mathlib.Core.Path.{_≡_, refl}
 use mathlib.Core.List.{List, [], _∷_, _++_}
 use mathlib.Core.Bool.{true, false}
 use Prim.Native.Nat.{ℕ, zero, suc, _<_}
@@ -9,6 +9,7 @@ use Rattle.std.specs.declared.option.Option.{Option}
 use Rattle.std.specs.declared.option.Option.the-variants.{Some, None}
 use Rattle.std.specs.declared.result.Result.{Result}
 use Rattle.std.specs.declared.result.Result.the-variants.{Ok, Err}
+use Rattle.std.proofs.shelf.Tests.{false≢true}
 use Rattle.std.specs.Results.{isOk}
 use Rattle.faults.specs.Least.{orElse}
 use Rattle.faults.specs.Questions.{firstOf, answered, allYes, First-no, Each-yes, In-order}
@@ -59,6 +60,14 @@ module _ {F : Type 0} where
   pub ok-yes : {X : Type 0} (o : Option F) (x : X) (r : Result X F) → r ≡ answered o x → isOk r ≡ allYes o
   ok-yes None x r e = rw e
   ok-yes (Some f) x r e = rw e
+
+  pub yes-answer : {X : Type 0} (o : Option F) (x : X) → allYes o ≡ true → answered o x ≡ Ok x
+  yes-answer None x e = refl
+  yes-answer (Some f) x e = absurd (false≢true e)
+
+  pub answer-yes : {X : Type 0} (o : Option F) (x : X) → answered o x ≡ Ok x → allYes o ≡ true
+  answer-yes None x e = refl
+  answer-yes (Some f) x e = absurd (let z : _≡_ {A = ℕ} 0 1 = cc in omega arith)
 
   pub yes-parts : {X : Type 0} (o : Option F) (x y : X) → Ok y ≡ answered o x → (allYes o ≡ true) × (y ≡ x)
   yes-parts None x y e = (refl, cc)

@@ -9,7 +9,7 @@ use Rattle.std.proofs.shelf.Tests.{cases-eq}
 use Rattle.std.specs.Options.{isSome}
 use Rattle.std.specs.declared.option.Option.{Option}
 use Rattle.std.specs.declared.option.Option.the-variants.{Some, None}
-use Rattle.faults.specs.Least.{least, orElse}
+use Rattle.faults.specs.Least.{least, orElse, Is-least}
 
 -- one turn more that finds nothing
 pub least-more : (p : ℕ → Bool) (i : ℕ) → least p i ≡ None → p i ≡ false → least p (i + 1) ≡ None
@@ -57,3 +57,23 @@ least-some p (suc n) i e = some-step p n i (least p n) (p n) refl e (least-some 
 -- the turn that finds it, for one that only asks whether there is any
 pub some-found : (p : ℕ → Bool) (n i : ℕ) → least p i ≡ None → p i ≡ true → i < n → true ≡ isSome (least p n)
 some-found p n i e t h = sym (ap isSome (least-found p n i e t h))
+
+-- nothing below what is found passes
+before-step :
+    (p : ℕ → Bool) (n i k : ℕ) (o : Option ℕ) (b : Bool) → least p n ≡ o → p n ≡ b → orElse o (cond b (Some n) None) ≡ Some i
+    → (o ≡ Some i → k < i → p k ≡ false) → k < i → p k ≡ false
+before-step p n i k (Some x) b l t e ih h = ih e h
+before-step p n i k None true l t e ih h = let q : n ≡ i = cc in least-none p n k l (omega arith)
+before-step p n i k None false l t e ih h = absurd (let z : _≡_ {A = ℕ} 0 1 = cc in omega arith)
+
+least-before : (p : ℕ → Bool) (n i k : ℕ) → least p n ≡ Some i → k < i → p k ≡ false
+least-before p zero i k e h = absurd (let z : _≡_ {A = ℕ} 0 1 = cc in omega arith)
+least-before p (suc n) i k e h = before-step p n i k (least p n) (p n) refl refl e (least-before p n i k) h
+
+by-found : (p : ℕ → Bool) (n : ℕ) (o : Option ℕ) → least p n ≡ o → Is-least p n o
+by-found p n None e = λ k h. least-none p n k e h
+by-found p n (Some i) e = let f = least-some p n i e in (f .0, f .1, λ k h. least-before p n i k e h)
+
+-- `least` finds the first
+pub is-least : (p : ℕ → Bool) (n : ℕ) → Is-least p n (least p n)
+is-least p n = by-found p n (least p n) refl

@@ -7,7 +7,7 @@ use Rattle.faults.specs.declared.layer.Layer.the-variants.{Frame, Section}
 use Rattle.faults.specs.declared.place.ByteNumber.{ByteNumber}
 use Rattle.faults.specs.declared.section.SectionFault.{SectionFault}
 use Rattle.faults.specs.declared.section.SectionFault.the-variants.{InFrame, Leader, TooShort, Absent, Space, Clock, Field, Value}
-use Rattle.faults.specs.Places.{byteNumber, nowhere}
+use Rattle.faults.specs.Places.{byteAt, nowhere}
 
 -- what a caller is told of a refusal
 pub record Told : Type 0 where
@@ -24,7 +24,7 @@ frameTold NoHeader = told 1 Frame nowhere
 frameTold (Mark p) = told 2 Frame p
 frameTold (SectionCount p) = told 3 Frame p
 frameTold (Size p) = told 4 Frame p
-frameTold Length = told 5 Frame (byteNumber 3)
+frameTold Length = told 5 Frame (byteAt 2)
 frameTold (Checksum p) = told 6 Frame p
 frameTold (OffsetTable p) = told 7 Frame p
 frameTold (SectionOrder p) = told 8 Frame p

@@ -2,3 +2,4 @@ pub mod Faults
 pub mod Least
 pub mod Places
 pub mod Questions
+pub mod Words

@@ -7,9 +7,12 @@ abbrev pub byteNumber : ℕ → ByteNumber
 byteNumber n = record { 0 = n }
 
 -- offsets count from 0, byte numbers from 1: this is the one step between them
-abbrev pub numbered : Offset → ByteNumber
-numbered o = byteNumber (o .0 + 1)
+abbrev pub byteAt : ℕ → ByteNumber
+byteAt offset = byteNumber (offset + 1)
 
--- the place of a fault that belongs to no single byte
+abbrev pub numbered : Offset → ByteNumber
+numbered o = byteAt (o .0)
+
+-- the place of a fault whose rule names no byte
 abbrev pub nowhere : ByteNumber
 nowhere = byteNumber 0

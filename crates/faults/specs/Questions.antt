@@ -50,6 +50,6 @@ abbrev pub In-order : {F X : Type 0} → List (Option F) → Result X F → Type
 In-order os (Ok x) = Each-yes os
 In-order os (Err f) = First-no os f
 
--- An answer F on a run of bytes that is longer than any right one: each part that is longer too has the same answer.
+-- An answer F on bytes that are more than any right ones: each beginning that is still too long has the same answer.
 abbrev pub Decided-beyond : {R : Type 0} → ℕ → (List ℕ → R) → List ℕ → Type 0
 Decided-beyond longest F bs = (m : ℕ) → longest < m → m ≤ length bs → F (take m bs) ≡ F bs

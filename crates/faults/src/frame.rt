@@ -1,5 +1,7 @@
 ghost use mathlib.Core.Path.{_≡_};
+ghost use Rattle.std.specs.declared.option.Option.the-variants.{Some};
 ghost use Rattle.faults.specs.Faults.{frameTold};
+ghost use Rattle.faults.specs.Words.{frameSentence};
 use crate::layer::Layer;
 use crate::place::ByteNumber;
 use crate::place::ByteNumberDebug;
@@ -8,7 +10,7 @@ use crate::place::Offset;
 use crate::place::OffsetByteNumber;
 use std::fmt;
 
-// What can be wrong with the bytes of a frame. Up to the checksum the cases
+// What can be wrong with the bytes of a frame. Up to `SectionOrder` the cases
 // stand in the order in which opening a PD0 ensemble asks.
 #[derive(Clone, Copy, PartialEq, Eq, Debug)]
 pub enum FrameFault {
@@ -24,7 +26,7 @@ pub enum FrameFault {
     Length,
     // the checksum does not agree with the bytes before it
     Checksum(ByteNumber),
-    // an offset does not follow the one before, or leaves no room
+    // an offset is not where the first section, or a next one, can begin
     OffsetTable(ByteNumber),
     // a section has the wrong kind for its place
     SectionOrder(ByteNumber),
@@ -94,34 +96,35 @@ impl FrameFault {
     }
 
     // The fault in plain words.
-    pub(crate) fn sentence(&self) -> &'static str {
+    pub(crate) fn sentence(&self) -> &'static str
+        ensures { λ r. ⌜ now r ≡ frameSentence (now (self .entry)) ⌝ }
+    {
         match self {
-            FrameFault::NoHeader =>
-                "there are fewer than the 6 bytes that a PD0 header begins with",
-            FrameFault::Mark(_) => "a PD0 ensemble begins with two bytes 7F, and this one is not",
-            FrameFault::SectionCount(_) => "the number of sections is not from 2 to 16",
-            FrameFault::Size(_) =>
-                "the number of counted bytes is too small for the table of offsets, or too large",
-            FrameFault::Length =>
-                "there are not exactly as many bytes as the header says, the checksum included",
-            FrameFault::Checksum(_) => "the checksum is not the sum of the bytes before it",
+            FrameFault::NoHeader => "there are too few bytes for a PD0 header",
+            FrameFault::Mark(_) =>
+                "a PD0 ensemble begins with two bytes 7F, and this byte is another",
+            FrameFault::SectionCount(_) => "the number of sections is out of range",
+            FrameFault::Size(_) => "the number of counted bytes is out of range",
+            FrameFault::Length => "there are fewer or more bytes than the header says",
+            FrameFault::Checksum(_) => "the checksum does not agree with the bytes before it",
             FrameFault::OffsetTable(_) => "this offset is not where a section can begin",
             FrameFault::SectionOrder(_) => "this section is not of a kind that can stand here",
             FrameFault::EntryOutside => "an entry does not lie inside the body",
             FrameFault::NoStructure =>
-                "there are fewer than the 4 bytes that an Aquadopp structure begins with",
-            FrameFault::Sync => "an Aquadopp structure begins with A5, and this does not",
+                "there are too few bytes for the head of an Aquadopp structure",
+            FrameFault::Sync => "an Aquadopp structure begins with A5, and this is another byte",
             FrameFault::StructureSize => "no Aquadopp structure has this id and this size",
-            FrameFault::StructureLength =>
-                "there are not exactly as many bytes as the structure's size says",
+            FrameFault::StructureLength => "there are fewer or more bytes than the structure says",
             FrameFault::StructureChecksum =>
-                "the structure's checksum is not B58C and the sum of the bytes before it",
+                "the structure's checksum does not agree with the bytes before it",
         }
     }
 }
 
 // The fault in a sentence.
 pub impl fmt::Display for FrameFault as FrameFaultDisplay {
+    ghost shown = { λ f. Some (frameSentence f) };
+
     fn fmt<W: fmt::Write>(&self, f: &mut fmt::Formatter<W>) -> fmt::Result {
         f.write_str(self.sentence())
     }

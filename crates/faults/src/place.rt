@@ -11,7 +11,7 @@ pub struct Offset(pub u16);
 pub struct ByteNumber(pub u32);
 
 impl ByteNumber {
-    // The place of a fault that belongs to no single byte.
+    // The place of a fault whose rule names no byte.
     pub const NONE: ByteNumber = ByteNumber(0);
 }
 

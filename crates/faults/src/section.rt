@@ -1,5 +1,7 @@
 ghost use mathlib.Core.Path.{_≡_};
+ghost use Rattle.std.specs.declared.option.Option.the-variants.{Some};
 ghost use Rattle.faults.specs.Faults.{sectionTold};
+ghost use Rattle.faults.specs.Words.{sectionSentence};
 ghost use Rattle.faults.specs.declared.section.SectionFault.the-variants.{InFrame};
 use crate::frame::FrameFault;
 use crate::frame::FrameFaultDebug;
@@ -25,7 +27,7 @@ pub enum SectionFault {
     Absent,
     // a row or a buffer has too few places
     Space,
-    // the clock shows no real time
+    // the clock shows no real date and time
     Clock,
     // no field starts at that byte, or it is not there whole
     Field,
@@ -81,15 +83,17 @@ impl SectionFault {
     }
 
     // The fault in plain words.
-    fn sentence(&self) -> &'static str {
+    fn sentence(&self) -> &'static str
+        ensures { λ r. ⌜ now r ≡ sectionSentence (now (self .entry)) ⌝ }
+    {
         match self {
             SectionFault::InFrame(fault) => fault.sentence(),
             SectionFault::Leader(_) =>
-                "the Fixed Leader has fewer than 52 bytes, or its number of cells is not from 1 to 128",
+                "the Fixed Leader is too short, or its number of cells is out of range",
             SectionFault::TooShort(_) => "this section has fewer bytes than its kind needs",
             SectionFault::Absent => "there is no section of this kind",
             SectionFault::Space => "there is too little space",
-            SectionFault::Clock => "the clock shows no real date and time of this century",
+            SectionFault::Clock => "the clock shows no real date and time",
             SectionFault::Field =>
                 "no field of this section starts at this byte and lies in it whole",
             SectionFault::Value => "the value does not fit the field",
@@ -108,6 +112,8 @@ pub impl From<FrameFault> for SectionFault as FrameFaultSectionFault {
 
 // The fault in a sentence.
 pub impl fmt::Display for SectionFault as SectionFaultDisplay {
+    ghost shown = { λ f. Some (sectionSentence f) };
+
     fn fmt<W: fmt::Write>(&self, f: &mut fmt::Formatter<W>) -> fmt::Result {
         f.write_str(self.sentence())
     }

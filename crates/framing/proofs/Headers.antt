@@ -1,16 +1,15 @@
 -- A framing by a header is lawful, if the header is seen in its own bytes and tells a size up to the longest.
-use mathlib.Core.Path.{_≡_, refl, sym, ap, _∙_}
-use mathlib.Core.Bool.{Bool, true, false, cond}
+use mathlib.Core.Path.{_≡_, refl, sym, ap, subst, _∙_}
+use mathlib.Core.Bool.{Bool, true, false}
 use mathlib.Core.List.{List, _++_}
 use Prim.Native.Nat.{ℕ, _≤_, _<_, _^_}
 use native.Mathlib.Omega.{arith}
-use lib.ListN.{length, take}
+use lib.ListN.{length, take, drop}
 use Rattle.std.proofs.shelf.Tests.{le-ltb, false≢true}
 use Rattle.std.proofs.shelf.Ways.{tells}
-use Rattle.std.proofs.shelf.Lists.{take-append-le, length-append}
-use Rattle.framing.specs.Laws.{Lawful, Run}
-use Rattle.framing.specs.Headed.{headedBy, headed}
-use Rattle.framing.specs.declared.verdict.Verdict.{Verdict}
+use Rattle.std.proofs.shelf.Lists.{take-append-le, length-append, length-take-le, take-append-drop}
+use Rattle.framing.specs.Laws.{Lawful}
+use Rattle.framing.specs.Headed.{headedBy, headed, Sound-exactly}
 use Rattle.framing.specs.declared.verdict.Verdict.the-variants.{Sound, Short, Unfit}
 
 sound-parts :
@@ -41,6 +40,12 @@ same h l l′ true size whole whole′ a b e =
     let p = e refl in
     rw (p .1, le-ltb l h a, le-ltb l′ h (omega arith), le-ltb l size (p .0), le-ltb l′ size (omega (arith, p .0)))
 same h l l′ false size whole whole′ a b e = rw (le-ltb l h a, le-ltb l′ h (omega arith))
+
+is-whole :
+    (h len : ℕ) (fit : Bool) (size : ℕ) (whole : Bool) (n : ℕ) → headedBy h len fit size whole ≡ Sound n → whole ≡ true
+is-whole h len true size true n e = refl
+is-whole h len true size false n e = absurd (grind (arith, tells))
+is-whole h len false size whole n e = absurd (grind (arith, tells))
 
 module _
     (header : ℕ) (fit : List ℕ → Bool) (size : List ℕ → ℕ) (whole : List ℕ → Bool) (reach : ℕ)
@@ -74,3 +79,23 @@ module _
             let p = unfit-parts header (length xs) (fit xs) (size xs) (whole (take (size xs) xs)) e in
             stays xs more (p .0) (p .1) ∙ e;
       }
+
+  -- sound exactly where a frame stands, if a frame has its header and tells its own size
+  pub headed-exactly :
+      (Is-frame : List ℕ → Type 0) → ((ys : List ℕ) → whole ys ≡ true → Is-frame ys)
+      → ((ys : List ℕ) → Is-frame ys → (whole ys ≡ true) × (header ≤ length ys) × (fit ys ≡ true) × (size ys ≡ length ys))
+      → (xs : List ℕ) → Sound-exactly (headed header fit size whole) Is-frame xs
+  headed-exactly Is-frame into from xs n = (
+    (λ e.
+        let p = sound-parts header (length xs) (fit xs) (size xs) (whole (take (size xs) xs)) n e in
+        let w = is-whole header (length xs) (fit xs) (size xs) (whole (take (size xs) xs)) n e in
+        (omega (arith, p .2, p .3), into (take n xs) (subst (λ (k : ℕ). whole (take k xs) ≡ true) (sym (p .2)) w))),
+    (λ h f.
+        let k : length (take n xs) ≡ n = length-take-le n xs h in
+        let p = from (take n xs) f in
+        let s = seen (take n xs) (drop n xs) (p .1) in
+        let w : take n xs ++ drop n xs ≡ xs = take-append-drop n xs in
+        let fits : fit xs ≡ true = subst (λ (zs : List ℕ). fit zs ≡ true) w (s .0 ∙ p .2) in
+        let sizes : size xs ≡ n = subst (λ (zs : List ℕ). size zs ≡ n) w (s .1 ∙ p .3 ∙ k) in
+        rw (sizes, fits, p .0, le-ltb (length xs) header (omega (arith, p .1)), le-ltb (length xs) n h)),
+  )

@@ -1,15 +1,15 @@
 -- A lawful framing behind a stamp is lawful.
-use mathlib.Core.Path.{_≡_, refl, sym, ap, _∙_}
-use mathlib.Core.Bool.{Bool, true, false, cond}
+use mathlib.Core.Path.{_≡_, refl, sym, _∙_}
+use mathlib.Core.Bool.{Bool, true, false}
 use mathlib.Core.List.{List, _++_}
 use Prim.Native.Nat.{ℕ, _+_, _-_, _≤_, _<_, _^_}
 use native.Mathlib.Omega.{arith}
-use lib.ListN.{length, getD, drop}
+use lib.ListN.{length, drop}
 use Rattle.std.proofs.shelf.Tests.{le-ltb, false≢true}
 use Rattle.std.proofs.shelf.Ways.{tells}
 use Rattle.std.proofs.shelf.Lists.{getD-append-left, drop-append-le, length-append, length-drop, getD-drop}
-use Rattle.framing.specs.Laws.{Lawful, Run, Bytes}
-use Rattle.framing.specs.Stamped.{behindStamp, stampedBy, stamped, isStamp, nineMore}
+use Rattle.framing.specs.Laws.{Lawful, Run}
+use Rattle.framing.specs.Stamped.{stampedBy, stamped, isStamp, withStamp}
 use Rattle.framing.specs.declared.verdict.Verdict.{Verdict}
 use Rattle.framing.specs.declared.verdict.Verdict.the-variants.{Sound, Short, Unfit}
 
@@ -19,7 +19,7 @@ behind xs r = ((λ k. rw getD-drop (r .0 (9 + k))), rw length-drop (omega (arith
 
 sound-behind :
     (len : ℕ) (s : Bool) (v : Verdict) (n : ℕ) → stampedBy len s v ≡ Sound n
-    → (9 ≤ len) × (s ≡ true) × ((k : ℕ) × (v ≡ Sound k) × (n ≡ nineMore k))
+    → (9 ≤ len) × (s ≡ true) × ((k : ℕ) × (v ≡ Sound k) × (n ≡ withStamp k))
 sound-behind len true (Sound k) n e = (grind (arith, tells), refl, (k, refl, grind (arith, tells)))
 sound-behind len true (Short k) n e = absurd (grind (arith, tells))
 sound-behind len true Unfit n e = absurd (grind (arith, tells))
@@ -34,7 +34,7 @@ short-behind len true Unfit m e h l = grind (arith, tells)
 short-behind len false v m e h l = grind (arith, tells)
 
 short-below :
-    (len : ℕ) (s : Bool) (v : Verdict) (m a : ℕ) → stampedBy len s v ≡ Short m → ((k : ℕ) → v ≡ Short k → k ≤ a) → m ≤ nineMore a
+    (len : ℕ) (s : Bool) (v : Verdict) (m a : ℕ) → stampedBy len s v ≡ Short m → ((k : ℕ) → v ≡ Short k → k ≤ a) → m ≤ withStamp a
 short-below len true (Sound k) m a e h = grind (arith, tells)
 short-below len true (Short k) m a e h = let w = h k refl in grind (arith, tells)
 short-below len true Unfit m a e h = grind (arith, tells)
@@ -65,14 +65,14 @@ stamp-stays xs more h =
     )
 
 module _ {F : List ℕ → Verdict} {a : ℕ} (la : Lawful F a) where
-  size : (xs : List ℕ) (n : ℕ) → Run xs → stamped F xs ≡ Sound n → (1 ≤ n) × (n ≤ length xs) × (n ≤ nineMore a)
+  size : (xs : List ℕ) (n : ℕ) → Run xs → stamped F xs ≡ Sound n → (1 ≤ n) × (n ≤ length xs) × (n ≤ withStamp a)
   size xs n r e =
       let p = sound-behind (length xs) (isStamp xs) (F (drop 9 xs)) n e in
       let s = la .size (drop 9 xs) (p .2 .0) (behind xs r) (p .2 .1) in
       let l = length-drop 9 xs in
       (omega (arith, p .2 .2), omega (arith, p .2 .2, p .0), omega (arith, p .2 .2))
 
-  waiting : (xs : List ℕ) (m : ℕ) → Run xs → stamped F xs ≡ Short m → (length xs < m) × (m ≤ nineMore a)
+  waiting : (xs : List ℕ) (m : ℕ) → Run xs → stamped F xs ≡ Short m → (length xs < m) × (m ≤ withStamp a)
   waiting xs m r e =
       let w : (k : ℕ) → F (drop 9 xs) ≡ Short k → (length (drop 9 xs) < k) × (k ≤ a) = λ k f. la .waiting (drop 9 xs) k (behind xs r) f in
       let l = length-drop 9 xs in (
@@ -101,7 +101,7 @@ module _ {F : List ℕ → Verdict} {a : ℕ} (la : Lawful F a) where
       let p = unfit-behind (length xs) (isStamp xs) (F (drop 9 xs)) e in
       stays xs more r (p .0) (λ t b. la .unfit-stays (drop 9 xs) more b (p .1 t) ∙ sym (p .1 t)) ∙ e
 
-  pub stamped-lawful : Lawful (stamped F) (nineMore a)
+  pub stamped-lawful : Lawful (stamped F) (withStamp a)
   stamped-lawful =
       record {
         range = let p = la .range in omega arith;

@@ -9,5 +9,5 @@ abbrev pub word : List ℕ → ℕ → ℕ
 word bs i = getD bs i 0 + getD bs (i + 1) 0 * 256
 
 -- a 16-bit checksum: a start and all bytes, modulo 65,536
-abbrev pub sealed : ℕ → List ℕ → ℕ
-sealed start bs = (start + sum bs) % 65536
+abbrev pub checksumFrom : ℕ → List ℕ → ℕ
+checksumFrom start bs = (start + sum bs) % 65536

@@ -1,7 +1,7 @@
 ghost use mathlib.Core.Path.{_≡_};
-ghost use Prim.Native.Nat.{ℕ, _+_, _%_};
+ghost use Prim.Native.Nat.{_%_};
 ghost use Rattle.std.specs.shelf.Lists.{sum};
-ghost use Rattle.framing.specs.Stored.{sealed};
+ghost use Rattle.framing.specs.Stored.{checksumFrom};
 
 // The bytes added up, modulo 65,536.
 fn wrapping_sum(bytes: &[u8]) -> u16
@@ -14,10 +14,10 @@ fn wrapping_sum(bytes: &[u8]) -> u16
     total
 }
 
-// The checksum of both makers: a start, and every byte added to it, modulo
-// 65,536.
+// A 16-bit checksum: a start, and every byte added to it, modulo 65,536. Frames
+// of several formats are sealed by one, each from a start of its own.
 pub fn checksum_from(start: u16, bytes: &[u8]) -> u16
-    ensures { λ r. ⌜ r ≡ sealed start (now (bytes .entry)) ⌝ }
+    ensures { λ r. ⌜ r ≡ checksumFrom start (now (bytes .entry)) ⌝ }
 {
     start.wrapping_add(wrapping_sum(bytes))
 }

@@ -1,7 +1,7 @@
 ghost use mathlib.Core.Path.{_≡_};
 ghost use Prim.Native.Nat.{_≤_};
 ghost use lib.ListN.{length};
-ghost use Rattle.framing.specs.Stamped.{isStamp, stamped, nineMore, behindStamp};
+ghost use Rattle.framing.specs.Stamped.{isStamp, stamped, withStamp, behindStamp};
 use crate::framing::Framing;
 use crate::verdict::Verdict;
 
@@ -42,7 +42,7 @@ pub struct Stamped<F> {
 pub impl<F: Framing> Framing for Stamped<F> as StampedFraming {
     ghost judged = { λ s run. stamped (F·Framing .judged (s .below)) run };
 
-    ghost reach = { λ s. nineMore (F·Framing .reach (s .below)) };
+    ghost reach = { λ s. withStamp (F·Framing .reach (s .below)) };
 
     fn judge(&self, run: &[u8]) -> Verdict {
         if run.len() < STAMP_SIZE {

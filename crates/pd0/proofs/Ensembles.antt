@@ -1,9 +1,9 @@
 -- Just the ensembles open: the questions, in their order, ask for nothing less and nothing more.
 use mathlib.Core.Path.{_≡_, refl, sym, ap, subst, _∙_}
-use mathlib.Core.Bool.{Bool, true, false, cond, _&&_, _||_, not}
-use mathlib.Core.List.{List, [], _∷_, _++_, map}
+use mathlib.Core.Bool.{Bool, true, false, cond, _&&_, not}
+use mathlib.Core.List.{List}
 use mathlib.Core.Logic.{⊎-elim}
-use Prim.Native.Nat.{ℕ, zero, suc, _+_, _-_, _*_, _<_, _≤_}
+use Prim.Native.Nat.{ℕ, zero, suc, _+_, _-_, _<_, _≤_}
 use native.Mathlib.Omega.{arith}
 use lib.Dec.{ltb, leb, eqb}
 use lib.ListN.{length, getD, take}
@@ -12,33 +12,33 @@ use Rattle.std.proofs.shelf.Ways.{tells}
 use Rattle.std.specs.Options.{isSome}
 use Rattle.std.specs.declared.option.Option.{Option}
 use Rattle.std.specs.declared.option.Option.the-variants.{Some, None}
-use Rattle.std.specs.declared.result.Result.the-variants.{Ok, Err}
+use Rattle.std.specs.declared.result.Result.the-variants.{Ok}
 use Rattle.faults.proofs.Asked.{in-order}
-use Rattle.faults.proofs.Leasts.{least-none, none-least, least-some}
+use Rattle.faults.proofs.Leasts.{least-none, none-least, least-some, is-least}
 use Rattle.faults.specs.declared.frame.FrameFault.{FrameFault}
 use Rattle.faults.specs.Least.{least, orElse}
 use Rattle.faults.specs.Questions.{ask, askEach, firstOf, answered}
-use Rattle.framing.specs.Stored.{word, sealed}
+use Rattle.framing.specs.Stored.{word, checksumFrom}
 use Rattle.pd0.proofs.Headers.{decided}
 use Rattle.pd0.proofs.Tables.{table-first, table-apart, table-last, sizes-from}
 use Rattle.pd0.specs.declared.kind.Kind.{Kind}
 use Rattle.pd0.specs.declared.kind.Kind.the-variants.{FixedLeader, VariableLeader, Velocity, Correlation, Echo, PercentGood, Status, BottomTrack, Unnamed}
 use Rattle.pd0.specs.Ensembles.{Is-ensemble, Opening-laws}
-use Rattle.pd0.specs.Kinds.{kindOf, leastSize, isNamed}
-use Rattle.pd0.specs.Layout.{sizeOf, countOf, offset, ident, sectionSize, cellsOf}
-use Rattle.pd0.specs.Questions.{wrongOffset, wrongOrder, wrongSize, hasIdent, inFrame, questions, opened}
+use Rattle.pd0.specs.Kinds.{kindOf, leastSize, isNamed, leaderSize, fixedLeaderId, variableLeaderId}
+use Rattle.pd0.specs.Layout.{headerSize, tableEnd, sizeOf, countOf, offset, ident, sectionSize, cellsOf}
+use Rattle.pd0.specs.Questions.{wrongOffset, wrongOrder, wrongSize, hasIdent, inFrame, questions, opened, mostSections, mostCounted, mostCells}
 
 -- the answers by which all questions are answered by yes
 record Yes (bs : List ℕ) : Type 0 where
-  six : leb 6 (length bs) ≡ true
+  six : leb headerSize (length bs) ≡ true
   mark : (eqb (getD bs 0 0) 0x7f ≡ true) × (eqb (getD bs 1 0) 0x7f ≡ true)
-  count : (leb 2 (countOf bs) && leb (countOf bs) 16) ≡ true
-  size : (leb (8 + 2 * countOf bs) (sizeOf bs) && leb (sizeOf bs) 4094) ≡ true
+  count : (leb 2 (countOf bs) && leb (countOf bs) mostSections) ≡ true
+  size : (leb (tableEnd (countOf bs) + 2) (sizeOf bs) && leb (sizeOf bs) mostCounted) ≡ true
   length-right : eqb (length bs) (sizeOf bs + 2) ≡ true
-  sum : eqb (sealed 0 (take (sizeOf bs) bs)) (word bs (sizeOf bs)) ≡ true
+  sum : eqb (checksumFrom 0 (take (sizeOf bs) bs)) (word bs (sizeOf bs)) ≡ true
   table : least (wrongOffset bs (countOf bs) (sizeOf bs)) (countOf bs) ≡ None
   order : least (wrongOrder bs) (countOf bs) ≡ None
-  leader : (leb 52 (sectionSize bs (countOf bs) (sizeOf bs) 0) && (leb 1 (cellsOf bs) && leb (cellsOf bs) 128)) ≡ true
+  leader : (leb leaderSize (sectionSize bs (countOf bs) (sizeOf bs) 0) && (leb 1 (cellsOf bs) && leb (cellsOf bs) mostCells)) ≡ true
   sizes : least (wrongSize bs (countOf bs) (sizeOf bs)) (countOf bs) ≡ None
 
 yes-opens : (bs : List ℕ) → Yes bs → opened bs ≡ Ok tt
@@ -126,10 +126,10 @@ once-right K p k None e h = and-right (isNamed K) false refl
 once-right K p k (Some j) e h =
     let f = least-some p k j e in and-left (isNamed K) true (ap isNamed (h j (f .0) (f .1)))
 
-fixed-id : (i : ℕ) → kindOf i ≡ FixedLeader → i ≡ 0
+fixed-id : (i : ℕ) → kindOf i ≡ FixedLeader → i ≡ fixedLeaderId
 fixed-id i e = grind (arith, tells)
 
-variable-id : (i : ℕ) → kindOf i ≡ VariableLeader → i ≡ 0x0080
+variable-id : (i : ℕ) → kindOf i ≡ VariableLeader → i ≡ variableLeaderId
 variable-id i e = grind (arith, tells)
 
 -- behind the two leaders
@@ -146,10 +146,10 @@ module _ (bs : List ℕ) (y : Yes bs) where
   right-order : (k : ℕ) → k < countOf bs → wrongOrder bs k ≡ false
   right-order k h = least-none (wrongOrder bs) (countOf bs) k (y .order) h
 
-  fixed : ident bs 0 ≡ 0x0000
+  fixed : ident bs 0 ≡ fixedLeaderId
   fixed = eqb-true _ _ (not-false _ (right-order 0 (omega (arith, d-some))))
 
-  variable : ident bs 1 ≡ 0x0080
+  variable : ident bs 1 ≡ variableLeaderId
   variable = eqb-true _ _ (not-false _ (right-order 1 (omega (arith, d-some))))
 
   once : (j k : ℕ) → j < k → k < countOf bs → ident bs j ≡ ident bs k → kindOf (ident bs k) ≡ Unnamed
@@ -182,7 +182,7 @@ module _ (bs : List ℕ) (y : Yes bs) where
 module _ (bs : List ℕ) (s : Is-ensemble bs) where
   spaced :
       (k : ℕ) → k < countOf bs
-      → cond (eqb k 0) (not (eqb (offset bs 0) (6 + 2 * countOf bs))) (ltb (offset bs k) (offset bs (k - 1) + 2)) ≡ false
+      → cond (eqb k 0) (not (eqb (offset bs 0) (tableEnd (countOf bs)))) (ltb (offset bs k) (offset bs (k - 1) + 2)) ≡ false
   spaced k h =
       ⊎-elim
       (λ (e : k ≡ 0). rw (eq-eqb k 0 e, eq-eqb _ _ (s .first)))
@@ -211,7 +211,7 @@ module _ (bs : List ℕ) (s : Is-ensemble bs) where
       ∙ once-right (kindOf (ident bs here)) (hasIdent bs (ident bs here)) here (least (hasIdent bs (ident bs here)) here) refl
       (λ j l t. s .once j here l h (eqb-true _ _ t))
 
-  leader-size : 52 ≤ sectionSize bs (countOf bs) (sizeOf bs) 0
+  pub leader-size : leaderSize ≤ sectionSize bs (countOf bs) (sizeOf bs) 0
   leader-size =
       subst (λ (K : Kind). leastSize K (cellsOf bs) ≤ sectionSize bs (countOf bs) (sizeOf bs) 0) (s .leaders .0)
       (s .sizes 0 (omega (arith, s .sections)))
@@ -219,7 +219,7 @@ module _ (bs : List ℕ) (s : Is-ensemble bs) where
   yes : Yes bs
   yes =
       record {
-        six = le-leb 6 (length bs) (omega (arith, s .whole, s .size));
+        six = le-leb headerSize (length bs) (omega (arith, s .whole, s .size));
         mark = (eq-eqb _ _ (s .marked .0), eq-eqb _ _ (s .marked .1));
         count = and-from _ _ (le-leb _ _ (s .sections .0)) (le-leb _ _ (s .sections .1));
         size = and-from _ _ (le-leb _ _ (s .size .0)) (le-leb _ _ (s .size .1));
@@ -237,5 +237,6 @@ opening-laws bs =
       opens = λ e. is-ensemble bs (opens-yes bs e);
       ensembles = λ s. yes-opens bs (yes bs s);
       order = in-order (questions bs) tt;
+      firsts = is-least;
       beyond = decided bs;
     }

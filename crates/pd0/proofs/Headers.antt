@@ -1,30 +1,27 @@
 -- The header of an ensemble is seen in its six bytes, and tells at most the longest size.
-use mathlib.Core.Path.{_≡_, refl, sym, ap, subst, _∙_}
+use mathlib.Core.Path.{_≡_, sym, ap, subst, _∙_}
 use mathlib.Core.Bool.{true, false}
-use mathlib.Core.List.{List, [], _∷_, _++_, map}
-use Prim.Native.Nat.{ℕ, _+_, _≤_, _<_}
+use mathlib.Core.List.{List, _++_, map}
+use Prim.Native.Nat.{ℕ, _+_, _≤_, _<_, _^_}
 use native.Mathlib.Omega.{arith}
 use lib.Dec.{leb, eqb}
 use lib.ListN.{length, take, drop}
 use Rattle.std.proofs.shelf.Tests.{le-leb, ne-eqb}
 use Rattle.std.proofs.shelf.Ways.{tells}
 use Rattle.std.proofs.shelf.Lists.{getD-append-left, length-append, length-take-le, take-append-drop}
-use Rattle.std.specs.declared.option.Option.{Option}
-use Rattle.std.specs.declared.option.Option.the-variants.{Some, None}
+use Rattle.std.specs.declared.option.Option.the-variants.{Some}
 use Rattle.faults.proofs.Asked.{refused-at}
-use Rattle.faults.specs.declared.frame.FrameFault.{FrameFault}
 use Rattle.faults.specs.declared.frame.FrameFault.the-variants.{Length}
-use Rattle.faults.specs.declared.section.SectionFault.{SectionFault}
 use Rattle.faults.specs.declared.section.SectionFault.the-variants.{InFrame}
 use Rattle.faults.specs.Least.{orElse}
 use Rattle.faults.specs.Questions.{ask, firstOf, allYes, answered, Decided-beyond}
 use Rattle.framing.proofs.Headers.{headed-lawful}
 use Rattle.framing.specs.Laws.{Lawful}
-use Rattle.pd0.specs.Layout.{sizeOf}
+use Rattle.pd0.specs.Layout.{headerSize, sizeOf}
 use Rattle.pd0.specs.Questions.{headQuestions, inFrame, questions, opened, longestSize}
 use Rattle.pd0.specs.Verdicts.{fit, wholeSize, whole, judgedRun}
 
-sized : (xs : List ℕ) → 6 ≤ length xs → fit xs ≡ true → (1 ≤ wholeSize xs) × (wholeSize xs ≤ longestSize)
+pub sized : (xs : List ℕ) → 6 ≤ length xs → fit xs ≡ true → (1 ≤ wholeSize xs) × (wholeSize xs ≤ longestSize)
 unfolding fit
 sized xs h e = (omega arith, grind (arith, tells))
 
@@ -42,15 +39,18 @@ head-seen xs more h =
       getD-append-left xs more 0 5 (omega arith),
     )
 
-seen : (xs more : List ℕ) → 6 ≤ length xs → (fit (xs ++ more) ≡ fit xs) × (wholeSize (xs ++ more) ≡ wholeSize xs)
+pub seen : (xs more : List ℕ) → 6 ≤ length xs → (fit (xs ++ more) ≡ fit xs) × (wholeSize (xs ++ more) ≡ wholeSize xs)
 unfolding fit
 seen xs more h = (
   ap (λ os. allYes (firstOf os)) (head-seen xs more h),
   rw (getD-append-left xs more 0 2 (omega arith), getD-append-left xs more 0 3 (omega arith)),
 )
 
+pub range : (1 ≤ headerSize) × (headerSize ≤ longestSize) × (longestSize < 2 ^ 64)
+range = (omega arith, omega arith, omega arith)
+
 pub pd0-lawful : Lawful judgedRun longestSize
-pd0-lawful = headed-lawful 6 fit wholeSize whole longestSize (omega arith, omega arith, omega arith) sized seen
+pd0-lawful = headed-lawful headerSize fit wholeSize whole longestSize range sized seen
 
 -- a run that is longer than any ensemble has a length that is not the told one
 too-long :

@@ -2,4 +2,5 @@ mod Ensembles
 mod Headers
 mod Layers
 mod Places
+mod Sounds
 mod Tables

@@ -1,7 +1,7 @@
 -- What a table of offsets without a wrong one says.
 use mathlib.Core.Path.{_≡_, ap, subst, _∙_}
 use mathlib.Core.List.{List}
-use Prim.Native.Nat.{ℕ, zero, suc, _+_, _*_, _-_, _<_, _≤_}
+use Prim.Native.Nat.{ℕ, zero, suc, _+_, _-_, _<_, _≤_}
 use native.Mathlib.Numerals.{add-one}
 use native.Mathlib.Omega.{arith}
 use borrow.Author.Count.{below-more}
@@ -14,12 +14,12 @@ use Rattle.faults.proofs.Leasts.{least-none}
 use Rattle.faults.specs.declared.place.Offset.{Offset}
 use Rattle.faults.specs.Least.{least}
 use Rattle.pd0.specs.Kinds.{kindOf, leastSize}
-use Rattle.pd0.specs.Layout.{offset, ident, sectionSize, cellsOf}
-use Rattle.pd0.specs.Questions.{wrongOffset, wrongSize}
-use Rattle.pd0.specs.Lawful.{at, Kept}
-use Rattle.pd0.specs.Right.{Tabled}
+use Rattle.pd0.specs.Layout.{tableEnd, offset, ident, sectionSize, cellsOf}
+use Rattle.pd0.specs.Questions.{wrongOffset, wrongSize, mostSections, mostCounted}
+use Rattle.pd0.specs.Invariant.{at, Kept}
+use Rattle.pd0.specs.Table.{Tabled}
 
-pub table-first : (bs : List ℕ) (d n : ℕ) → least (wrongOffset bs d n) d ≡ None → 0 < d → offset bs 0 ≡ 6 + 2 * d
+pub table-first : (bs : List ℕ) (d n : ℕ) → least (wrongOffset bs d n) d ≡ None → 0 < d → offset bs 0 ≡ tableEnd d
 table-first bs d n e h = let w = least-none (wrongOffset bs d n) d 0 e h in grind (arith, tells)
 
 pub table-apart : (bs : List ℕ) (d n : ℕ) → least (wrongOffset bs d n) d ≡ None → (k : ℕ) → k + 1 < d → offset bs k + 2 ≤ offset bs (k + 1)
@@ -30,7 +30,7 @@ table-last bs d n e h = let w = least-none (wrongOffset bs d n) d (d - 1) e (ome
 
 module _ (bs : List ℕ) (d : ℕ) (up : (k : ℕ) → k + 1 < d → offset bs k + 2 ≤ offset bs (k + 1)) where
   -- an ascending table has nothing below its first offset
-  above : (k : ℕ) → k < d → offset bs 0 ≤ offset bs k
+  pub above : (k : ℕ) → k < d → offset bs 0 ≤ offset bs k
   above zero h = omega arith
   above (suc k) h =
       let i = above k (omega arith) in
@@ -38,7 +38,7 @@ module _ (bs : List ℕ) (d : ℕ) (up : (k : ℕ) → k + 1 < d → offset bs k
       omega arith
 
   -- nor above its last
-  under : (j k : ℕ) → k + j + 1 ≡ d → offset bs k ≤ offset bs (d - 1)
+  pub under : (j k : ℕ) → k + j + 1 ≡ d → offset bs k ≤ offset bs (d - 1)
   under zero k e = let s : k ≡ d - 1 = omega arith in rw s (omega arith)
   under (suc j) k e =
       let i = under j (k + 1) (omega arith) in
@@ -46,7 +46,7 @@ module _ (bs : List ℕ) (d : ℕ) (up : (k : ℕ) → k + 1 < d → offset bs k
       omega arith
 
 pub tabled-from :
-    (bs : List ℕ) (d n : ℕ) → 2 ≤ d → d ≤ 16 → 8 + 2 * d ≤ n → n ≤ 4094 → length bs ≡ n + 2
+    (bs : List ℕ) (d n : ℕ) → 2 ≤ d → d ≤ mostSections → tableEnd d + 2 ≤ n → n ≤ mostCounted → length bs ≡ n + 2
     → least (wrongOffset bs d n) d ≡ None → Tabled bs d n
 tabled-from bs d n a b r s w e =
     let first = table-first bs d n e (omega arith) in

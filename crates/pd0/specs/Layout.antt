@@ -7,6 +7,14 @@ use lib.Dec.{eqb}
 use Rattle.std.specs.shelf.Lists.{between}
 use Rattle.framing.specs.Stored.{word}
 
+-- the bytes before the table of offsets
+abbrev pub headerSize : ℕ
+headerSize = 6
+
+-- where a table of d offsets of 16 bits ends
+abbrev pub tableEnd : ℕ → ℕ
+tableEnd d = headerSize + 2 * d
+
 -- bytes 3 and 4: all bytes before the checksum
 abbrev pub sizeOf : List ℕ → ℕ
 sizeOf bs = word bs 2
@@ -21,7 +29,7 @@ countOf bs = getD bs 5 0
 
 -- from byte 7 on, 16 bits for each section: where it begins
 abbrev pub offset : List ℕ → ℕ → ℕ
-offset bs k = word bs (6 + 2 * k)
+offset bs k = word bs (tableEnd k)
 
 -- a section begins with its identification
 abbrev pub ident : List ℕ → ℕ → ℕ

@@ -1,9 +1,9 @@
 pub mod Ensembles
 pub mod Held
+pub mod Invariant
 pub mod Kinds
-pub mod Lawful
 pub mod Layout
 pub mod Questions
-pub mod Right
 pub mod Sections
+pub mod Table
 pub mod Verdicts

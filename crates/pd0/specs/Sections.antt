@@ -1,7 +1,7 @@
 -- Sections as they are handed out.
 use mathlib.Core.Path.{_≡_}
 use mathlib.Core.List.{List}
-use Prim.Native.Nat.{ℕ, _+_, _-_, _<_, _≤_}
+use Prim.Native.Nat.{ℕ, _-_, _<_, _≤_}
 use denote.Ref.{now}
 use Rattle.std.specs.declared.option.Option.{Option}
 use Rattle.std.specs.declared.option.Option.the-variants.{Some, None}
@@ -11,7 +11,7 @@ use Rattle.pd0.specs.declared.section.Section.{Section}
 use Rattle.pd0.specs.declared.section.Section.the-variants as section
 use Rattle.pd0.specs.Kinds.{kindOf}
 use Rattle.faults.specs.declared.place.ByteNumber.{ByteNumber}
-use Rattle.faults.specs.Places.{byteNumber}
+use Rattle.faults.specs.Places.{byteAt}
 use Rattle.pd0.specs.Layout.{countOf, sizeOf, offset, ident, part}
 
 -- for each case its kind
@@ -49,4 +49,4 @@ Section-at bs number (Some s) =
 -- The byte number where the section of a number from 1 begins, which is its offset + 1; none where there is no section.
 abbrev pub First-byte-at : List ℕ → ℕ → Option ByteNumber → Type 0
 First-byte-at bs number None = 0 < number → countOf bs < number
-First-byte-at bs number (Some b) = (0 < number) × (number ≤ countOf bs) × (b ≡ byteNumber (offset bs (number - 1) + 1))
+First-byte-at bs number (Some b) = (0 < number) × (number ≤ countOf bs) × (b ≡ byteAt (offset bs (number - 1)))

@@ -5,7 +5,7 @@ use Prim.Native.Nat.{ℕ, _+_}
 use Rattle.faults.specs.Questions.{firstOf, allYes}
 use Rattle.framing.specs.Headed.{headed}
 use Rattle.framing.specs.declared.verdict.Verdict.{Verdict}
-use Rattle.pd0.specs.Layout.{sizeOf}
+use Rattle.pd0.specs.Layout.{headerSize, sizeOf}
 use Rattle.pd0.specs.Questions.{headQuestions, questions}
 
 -- the questions of the header alone are answered by yes
@@ -20,6 +20,6 @@ wholeSize bs = sizeOf bs + 2
 unfoldable pub whole : List ℕ → Bool
 whole bs = allYes (firstOf (questions bs))
 
--- six bytes tell the size
+-- the header tells the size
 abbrev pub judgedRun : List ℕ → Verdict
-judgedRun = headed 6 fit wholeSize whole
+judgedRun = headed headerSize fit wholeSize whole

@@ -1,14 +1,14 @@
 ghost use mathlib.Core.Path.{_≡_};
-ghost use lib.ListN.{length};
 ghost use Rattle.std.specs.Vec.{made};
 ghost use Rattle.faults.specs.Questions.{answered, firstOf};
 ghost use Rattle.pd0.specs.Ensembles.{Opening-laws};
 ghost use Rattle.pd0.specs.Questions.{headerOf, toTable, frameQuestions, questions};
-ghost use Rattle.pd0.specs.Right.{Tabled, Sized};
+ghost use Rattle.pd0.specs.Table.{Tabled};
 use crate::header::Header;
 use crate::header::entry;
 use crate::header::read_header;
 use crate::header::wrong_offset;
+use crate::kind::LEADER_SIZE;
 use crate::sections::section_size;
 use crate::sections::start;
 use crate::sections::wrong_order;
@@ -22,10 +22,7 @@ use faults::place::OffsetByteNumber;
 use faults::section::FrameFaultSectionFault;
 use faults::section::SectionFault;
 
-// The bytes that a Fixed Leader has at the least, and its byte with the number
-// of cells.
-const LEADER_SIZE: usize = 52;
-
+// Where the number of cells stands in the Fixed Leader.
 pub(crate) const CELLS: Offset = Offset(9);
 
 // The most cells.
@@ -66,7 +63,6 @@ fn check_frame(bytes: &[u8]) -> Result<Header, FrameFault>
 // Asks every question of an ensemble.
 pub(crate) fn check(bytes: &[u8]) -> Result<Header, SectionFault>
     ensures value { λ r. ⌜ r ≡ answered (firstOf (questions (now (bytes .entry)))) (headerOf (now (bytes .entry))) ⌝ }
-    ensures sized { λ r. ⌜ made r (λ h. Sized (now (bytes .entry)) (h .count) (h .size)) ⌝ }
     ensures laws { λ _. ⌜ Opening-laws (now (bytes .entry)) ⌝ }
 {
     let header = check_frame(bytes)?;

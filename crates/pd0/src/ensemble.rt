@@ -2,7 +2,9 @@ ghost use mathlib.Core.Path.{_≡_};
 ghost use Prim.Native.Nat.{_≤_};
 ghost use denote.Ref.{now};
 ghost use Rattle.pd0.specs.Layout.{countOf};
-ghost use Rattle.pd0.specs.Lawful.{Bare, Opens, Whole, Kept, Behind, Apart, Inside, Celled, Filled};
+ghost use Rattle.pd0.specs.Invariant.{Bare, Opens, Whole, Kept, Behind, Apart, Inside, Celled, Filled};
+ghost use Rattle.pd0.specs.Questions.{mostSections};
+use crate::header::MOST_SECTIONS;
 use faults::place::Offset;
 
 pub mod parts;
@@ -15,8 +17,8 @@ pub mod place;
 pub struct Ensemble<'a> {
     bytes: &'a [u8],
     count: usize,
-    offsets: [Offset; 16],
-    ghost few: { count ≤ 16 },
+    offsets: [Offset; MOST_SECTIONS],
+    ghost few: { count ≤ mostSections },
     ghost counted: { count ≡ countOf (now bytes) },
     ghost bare: { Bare (now bytes) count },
     ghost opens: { Opens (now bytes) count },

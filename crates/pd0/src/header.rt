@@ -1,9 +1,9 @@
 ghost use mathlib.Core.Path.{_≡_};
-ghost use Prim.Native.Nat.{ℕ, _+_, _*_, _<_, _≤_};
+ghost use Prim.Native.Nat.{_+_, _<_, _≤_};
 ghost use Rattle.std.specs.Vec.{made};
 ghost use Rattle.faults.specs.Least.{least, Found};
 ghost use Rattle.faults.specs.Questions.{answered, firstOf};
-ghost use Rattle.pd0.specs.Layout.{offset};
+ghost use Rattle.pd0.specs.Layout.{tableEnd, offset};
 ghost use Rattle.pd0.specs.Questions.{headQuestions, headerOf, wrongOffset, mostCounted, mostSections};
 use crate::stored::word;
 use faults::frame::FrameFault;
@@ -24,7 +24,7 @@ pub(crate) const SPARE: Offset = Offset(4);
 
 const SECTION_COUNT: Offset = Offset(5);
 
-pub(crate) const TABLE: Offset = Offset(6);
+pub(crate) const TABLE: Offset = Offset(HEADER_SIZE as u16);
 
 // The most sections, and the most bytes before the checksum.
 pub(crate) const MOST_SECTIONS: usize = 16;
@@ -42,7 +42,7 @@ pub(crate) struct Header {
 // Reads the header, where its own questions are answered by yes.
 pub(crate) fn read_header(bytes: &[u8]) -> Result<Header, FrameFault>
     ensures value { λ r. ⌜ r ≡ answered (firstOf (headQuestions (now (bytes .entry)))) (headerOf (now (bytes .entry))) ⌝ }
-    ensures range { λ r. ⌜ made r (λ h. (2 ≤ h .count) × (h .count ≤ mostSections) × (8 + 2 * (h .count) ≤ h .size) × (h .size ≤ mostCounted)) ⌝ }
+    ensures range { λ r. ⌜ made r (λ h. (2 ≤ h .count) × (h .count ≤ mostSections) × (tableEnd (h .count) + 2 ≤ h .size) × (h .size ≤ mostCounted)) ⌝ }
 {
     if bytes.len() < HEADER_SIZE {
         return Err(FrameFault::NoHeader);
@@ -66,15 +66,15 @@ pub(crate) fn read_header(bytes: &[u8]) -> Result<Header, FrameFault>
 
 // Where entry `k` of the table of offsets stands.
 pub(crate) fn entry(k: usize) -> Offset
-    requires { ⌜ k < 16 ⌝ }
-    ensures { λ r. ⌜ r .0 ≡ 6 + 2 * k ⌝ }
+    requires { ⌜ k < mostSections ⌝ }
+    ensures { λ r. ⌜ r .0 ≡ tableEnd k ⌝ }
 {
     Offset(TABLE.0 + 2 * k as u16)
 }
 
 // The offset of section `k`, counted from 0.
 pub(crate) fn offset_at(bytes: &[u8], k: usize) -> Offset
-    requires { ⌜ k < 16 ⌝ }
+    requires { ⌜ k < mostSections ⌝ }
     ensures { λ r. ⌜ r .0 ≡ offset (now (bytes .entry)) k ⌝ }
 {
     Offset(word(bytes, entry(k)))

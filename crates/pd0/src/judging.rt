@@ -1,6 +1,7 @@
 ghost use mathlib.Core.Path.{_≡_};
-ghost use mathlib.Core.Bool.{cond};
-ghost use Rattle.std.specs.declared.option.Option.the-variants.{Some, None};
+ghost use Rattle.framing.specs.Headed.{headWants, Sound-exactly};
+ghost use Rattle.pd0.specs.Ensembles.{Is-ensemble};
+ghost use Rattle.pd0.specs.Layout.{headerSize};
 ghost use Rattle.pd0.specs.Questions.{longestSize};
 ghost use Rattle.pd0.specs.Verdicts.{fit, wholeSize, whole, judgedRun};
 use crate::check::check;
@@ -13,13 +14,18 @@ use framing::verdict::Verdict;
 // The bytes of the longest ensemble, its checksum among them.
 pub const LONGEST: usize = MOST_COUNTED + 2;
 
-// The size in bytes that a right header tells, the checksum included.
-fn size_wanted(run: &[u8]) -> Option<usize>
-    ensures { λ r. ⌜ r ≡ cond (fit (now (run .entry))) (Some (wholeSize (now (run .entry)))) None ⌝ }
+// The size in bytes that a right header tells, the checksum included, or the
+// verdict that no more than the header is needed for.
+fn size_wanted(run: &[u8]) -> Result<usize, Verdict>
+    ensures value { λ r. ⌜ r ≡ headWants headerSize fit wholeSize (now (run .entry)) ⌝ }
+    ensures exactly { λ _. ⌜ Sound-exactly judgedRun Is-ensemble (now (run .entry)) ⌝ }
 {
+    if run.len() < HEADER_SIZE {
+        return Err(Verdict::Short(HEADER_SIZE));
+    }
     match read_header(run) {
-        Ok(header) => Some(header.size + 2),
-        Err(_) => None,
+        Ok(header) => Ok(header.size + 2),
+        Err(_) => Err(Verdict::Unfit),
     }
 }
 
@@ -39,12 +45,13 @@ pub impl Framing for Pd0 as Pd0Framing {
 
     ghost reach = { λ _. longestSize };
 
-    fn judge(&self, run: &[u8]) -> Verdict {
-        if run.len() < HEADER_SIZE {
-            return Verdict::Short(HEADER_SIZE);
-        }
-        let Some(size) = size_wanted(run) else {
-            return Verdict::Unfit;
+    fn judge(&self, run: &[u8]) -> Verdict
+        ensures verdict { λ r. ⌜ r ≡ judgedRun (now (run .entry)) ⌝ }
+        ensures exactly { λ _. ⌜ Sound-exactly judgedRun Is-ensemble (now (run .entry)) ⌝ }
+    {
+        let size = match size_wanted(run) {
+            Ok(size) => size,
+            Err(verdict) => return verdict,
         };
         if run.len() < size {
             return Verdict::Short(size);

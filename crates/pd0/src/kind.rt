@@ -1,6 +1,15 @@
 ghost use mathlib.Core.Path.{_≡_};
-ghost use Rattle.pd0.specs.Kinds.{kindOf, leastSize, isNamed};
+ghost use Rattle.std.specs.declared.option.Option.the-variants.{Some};
+ghost use Rattle.pd0.specs.Kinds.{kindOf, kindName, leastSize, isNamed};
 use std::fmt;
+
+// The identifications of the two sections that must come first.
+pub(crate) const FIXED_LEADER: u16 = 0x0000;
+
+pub(crate) const VARIABLE_LEADER: u16 = 0x0080;
+
+// The fewest bytes of a Fixed Leader.
+pub(crate) const LEADER_SIZE: usize = 52;
 
 // What a section is, by its identification.
 #[derive(Clone, Copy, PartialEq, Eq, Debug)]
@@ -23,8 +32,8 @@ impl Kind {
         ensures { λ r. ⌜ r ≡ kindOf identification ⌝ }
     {
         match identification {
-            0x0000 => Kind::FixedLeader,
-            0x0080 => Kind::VariableLeader,
+            FIXED_LEADER => Kind::FixedLeader,
+            VARIABLE_LEADER => Kind::VariableLeader,
             0x0100 => Kind::Velocity,
             0x0200 => Kind::Correlation,
             0x0300 => Kind::Echo,
@@ -40,7 +49,7 @@ impl Kind {
         ensures { λ r. ⌜ r ≡ leastSize self cells ⌝ }
     {
         match self {
-            Kind::FixedLeader => 52,
+            Kind::FixedLeader => LEADER_SIZE,
             Kind::VariableLeader => 65,
             Kind::Velocity => 2 + 8 * cells as usize,
             Kind::Correlation | Kind::Echo | Kind::PercentGood | Kind::Status => 2
@@ -57,7 +66,9 @@ impl Kind {
     }
 
     // The kind's name in the tables of the format.
-    fn name(self) -> &'static str {
+    fn name(self) -> &'static str
+        ensures { λ r. ⌜ now r ≡ kindName self ⌝ }
+    {
         match self {
             Kind::FixedLeader => "Fixed Leader",
             Kind::VariableLeader => "Variable Leader",
@@ -73,6 +84,8 @@ impl Kind {
 }
 
 pub impl fmt::Display for Kind as KindDisplay {
+    ghost shown = { λ k. Some (kindName k) };
+
     fn fmt<W: fmt::Write>(&self, f: &mut fmt::Formatter<W>) -> fmt::Result {
         f.write_str(self.name())
     }

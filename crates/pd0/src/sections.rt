@@ -1,21 +1,17 @@
 ghost use mathlib.Core.Path.{_≡_};
-ghost use Prim.Native.Nat.{ℕ, _+_, _*_, _<_, _≤_};
-ghost use lib.ListN.{length};
+ghost use Prim.Native.Nat.{_+_, _<_, _≤_};
 ghost use Rattle.std.specs.Options.{isSome};
 ghost use Rattle.faults.specs.Least.{least, Found};
 ghost use Rattle.pd0.specs.Layout.{offset, ident, sectionSize, cellsOf};
 ghost use Rattle.pd0.specs.Questions.{hasIdent, wrongOrder, wrongSize};
-ghost use Rattle.pd0.specs.Right.{Tabled};
+ghost use Rattle.pd0.specs.Table.{Tabled};
 use crate::header::Header;
 use crate::header::offset_at;
+use crate::kind::FIXED_LEADER;
 use crate::kind::Kind;
+use crate::kind::VARIABLE_LEADER;
 use crate::stored::word;
 use faults::place::Offset;
-
-// The identifications that the first two sections must have.
-const FIXED_LEADER: u16 = 0x0000;
-
-const VARIABLE_LEADER: u16 = 0x0080;
 
 // Where section `k`, counted from 0, begins.
 pub(crate) fn start(bytes: &[u8], header: Header, k: usize) -> Offset

@@ -1,6 +1,6 @@
 ghost use mathlib.Core.Path.{_≡_};
 ghost use lib.ListN.{getD};
-ghost use Rattle.framing.specs.Stored.{word, sealed};
+ghost use Rattle.framing.specs.Stored.{word, checksumFrom};
 use faults::place::Offset;
 use framing::checksum::checksum_from;
 
@@ -22,7 +22,7 @@ pub(crate) fn word(bytes: &[u8], at: Offset) -> u16
 
 // The checksum of an ensemble's counted bytes.
 pub fn checksum(bytes: &[u8]) -> u16
-    ensures { λ r. ⌜ r ≡ sealed 0 (now (bytes .entry)) ⌝ }
+    ensures { λ r. ⌜ r ≡ checksumFrom 0 (now (bytes .entry)) ⌝ }
 {
     checksum_from(0, bytes)
 }

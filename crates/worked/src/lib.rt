@@ -6,7 +6,13 @@ mod framings;
 // Ensembles that open, and ones that are refused, with number and place.
 #[cfg(test)]
 mod ensembles {
+    use framing::framing::Framing;
+    use framing::verdict::Verdict;
+    use framing::verdict::VerdictDebug;
+    use framing::verdict::VerdictPartialEq;
     use pd0::ensemble::Ensemble;
+    use pd0::judging::Pd0;
+    use pd0::judging::Pd0Framing;
     use pd0::kind::Kind;
     use pd0::kind::KindDebug;
     use pd0::kind::KindPartialEq;
@@ -34,7 +40,8 @@ mod ensembles {
     }
 
     // Makes zero bytes an ensemble: the header, the table of offsets, each
-    // section's identification, the number of cells, and the checksum.
+    // section's identification, the number of cells, and the checksum. Sizes that
+    // no test needs are left as zeros, which no test takes for an ensemble.
     fn lay(bytes: &mut [u8], sections: &[(u16, u16)], cells: u8) {
         if bytes.len() < 131 || bytes.len() > 5000 || sections.len() < 2 || sections.len() > 17 {
             return;
@@ -126,7 +133,10 @@ mod ensembles {
         check_eq(section(&bytes, 0), None)?;
         check_eq(section(&bytes, 1), Some((Kind::FixedLeader, 11, 52)))?;
         check_eq(section(&bytes, 2), Some((Kind::VariableLeader, 63, 65)))?;
-        check_eq(section(&bytes, 3), None)
+        check_eq(section(&bytes, 3), None)?;
+        check_eq(Pd0.judge(&bytes), Verdict::Sound(131))?;
+        check_eq(Pd0.judge(&bytes[0..130]), Verdict::Short(131))?;
+        check_eq(Pd0.judge(&bytes[0..5]), Verdict::Short(6))
     }
 
     #[test]
@@ -136,6 +146,7 @@ mod ensembles {
         let mut damaged = bytes;
         damaged[130] = 0x03;
         check_eq(refused(&damaged), (6, 130))?;
+        check_eq(Pd0.judge(&damaged), Verdict::Unfit)?;
         check_eq(held(&damaged, &damaged), (0, 0, 0)).note("a new place stays new")?;
         check_eq(held(&bytes, &damaged), (2, 129, 1)).note("a filled place keeps its ensemble")
     }

@@ -1,9 +1,8 @@
 ghost use mathlib.Core.Path.{_≡_};
-ghost use Prim.Native.Nat.{ℕ, _+_, _-_, _*_, _<_, _≤_};
+ghost use Prim.Native.Nat.{_+_, _<_, _≤_};
 ghost use lib.ListN.{length};
-ghost use Rattle.framing.specs.Stored.{word};
 ghost use Rattle.pd0.specs.Held.{held};
-ghost use Rattle.pd0.specs.Layout.{countOf, sizeOf, spareOf, cellsOf, reservedOf, offset, ident, ending, part};
+ghost use Rattle.pd0.specs.Layout.{countOf, sizeOf, spareOf, cellsOf, reservedOf, offset, ending};
 ghost use Rattle.pd0.specs.Sections.{Section-at, First-byte-at};
 use crate::check::CELLS;
 use crate::ensemble::Ensemble;
@@ -60,6 +59,7 @@ impl<'a> Ensemble<'a> {
         ensures { λ r. ⌜ r ≡ reservedOf (held (now (self .entry))) ⌝ }
     {
         let n = self.counted_bytes();
+        // a new place has no counted bytes to step back from
         let first = n.saturating_sub(2);
         let second = n.saturating_sub(1);
         [byte(self.bytes, first), byte(self.bytes, second)]
@@ -71,6 +71,7 @@ impl<'a> Ensemble<'a> {
         ensures value { λ r. ⌜ r ≡ ending (held (now (self .entry))) (now (self .entry) .count) (sizeOf (held (now (self .entry)))) k ⌝ }
         ensures bound { λ r. ⌜ (offset (held (now (self .entry))) k + 2 ≤ r) × (r + 4 ≤ length (held (now (self .entry)))) ⌝ }
     {
+        // the reserved bytes and the checksum follow the last section
         let last = self.bytes.len() - 4;
         if k + 1 == self.count {
             last

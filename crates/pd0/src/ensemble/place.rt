@@ -5,23 +5,23 @@ ghost use Rattle.std.specs.Results.{Cases};
 ghost use Rattle.std.specs.declared.result.Result.the-variants.{Ok};
 ghost use Rattle.faults.specs.Questions.{answered, firstOf};
 ghost use Rattle.pd0.specs.Held.{held};
-ghost use Rattle.pd0.specs.Lawful.{Kept};
+ghost use Rattle.pd0.specs.Invariant.{Kept};
 ghost use Rattle.pd0.specs.Ensembles.{Opening-laws};
-ghost use Rattle.pd0.specs.Questions.{headerOf, questions, opened};
-ghost use Rattle.pd0.specs.Right.{Sized};
+ghost use Rattle.pd0.specs.Questions.{headerOf, questions, opened, mostSections};
 use crate::check::check;
 use crate::ensemble::Ensemble;
 use crate::header::Header;
+use crate::header::MOST_SECTIONS;
 use crate::header::offset_at;
 use faults::place::Offset;
 use faults::section::SectionFault;
 
 // The first `count` offsets.
-fn offsets_of(bytes: &[u8], count: usize) -> [Offset; 16]
-    requires { ⌜ count ≤ 16 ⌝ }
+fn offsets_of(bytes: &[u8], count: usize) -> [Offset; MOST_SECTIONS]
+    requires { ⌜ count ≤ mostSections ⌝ }
     ensures { λ r. ⌜ Kept (now (bytes .entry)) count r ⌝ }
 {
-    let mut offsets = [Offset(0); 16];
+    let mut offsets = [Offset(0); MOST_SECTIONS];
     for k in 0..count {
         offsets[k] = offset_at(bytes, k);
     }
@@ -36,14 +36,13 @@ impl<'a> Ensemble<'a> {
         Ensemble {
             bytes: &[],
             count: 0,
-            offsets: [Offset(0); 16],
+            offsets: [Offset(0); MOST_SECTIONS],
         }
     }
 
     // Takes over bytes of which every question was answered by yes.
     fn fill(&mut self, bytes: &'a [u8], header: Header)
         requires { ⌜ Ok header ≡ answered (firstOf (questions (now bytes))) (headerOf (now bytes)) ⌝ }
-        requires { ⌜ Sized (now bytes) (header .count) (header .size) ⌝ }
         ensures { λ _. ⌜ held (now (self .exit)) ≡ now (bytes .entry) ⌝ }
     {
         let offsets = offsets_of(bytes, header.count);

@@ -1,11 +1,9 @@
 use borrow.Author.Needs.{needs}
-use mathlib.Core.Path.{sym}
 use Rattle.std.proofs.shelf.Results.{err-from-errBy}
 use Rattle.pd0.specs.Layout.{countOf, sizeOf}
 use Rattle.pd0.specs.Questions.{frameQuestions, sectionQuestions, questions, headerOf}
 use Rattle.pd0.proofs.Ensembles.{opening-laws}
 use Rattle.pd0.proofs.Layers.{frame-refused}
-use Rattle.pd0.proofs.Tables.{sizes-from}
 use Rattle.pd0.proofs.check.check.Needs as need
 
 pub returns-in-Break-header : need.returns-in-Break-header
@@ -17,7 +15,6 @@ returns-in-Break-header c =
     (record {
       value =
           frame-refused (frameQuestions bs) (sectionQuestions bs (countOf bs) (sizeOf bs)) (headerOf bs) _ (c .in-Break-header .ensures tt .value);
-      sized = tt;
       laws = opening-laws bs;
     })
 
@@ -26,25 +23,17 @@ unfolding questions
 returns c =
     record {
       value = search needs;
-      sized =
-          record {
-            tabled = c .in-Continue-header .ensures tt .tabled;
-            leader = search needs;
-            cells-some = search needs;
-            cells-few = search needs;
-            sized = sizes-from _ _ _ (sym (c .in-rest .ensures tt .value));
-          };
       laws = opening-laws (c .args .bytes .now);
     }
 
 pub returns-then-section-size-lt-LEADER-SIZE : need.returns-then-section-size-lt-LEADER-SIZE
 unfolding questions
-returns-then-section-size-lt-LEADER-SIZE c = record { value = search needs; sized = tt; laws = opening-laws (c .args .bytes .now) }
+returns-then-section-size-lt-LEADER-SIZE c = record { value = search needs; laws = opening-laws (c .args .bytes .now) }
 
 pub returns-then-cells-lt1 : need.returns-then-cells-lt1
 unfolding questions
-returns-then-cells-lt1 c = record { value = search needs; sized = tt; laws = opening-laws (c .args .bytes .now) }
+returns-then-cells-lt1 c = record { value = search needs; laws = opening-laws (c .args .bytes .now) }
 
 pub returns-in-Some : need.returns-in-Some
 unfolding questions
-returns-in-Some c = record { value = search needs; sized = tt; laws = opening-laws (c .args .bytes .now) }
+returns-in-Some c = record { value = search needs; laws = opening-laws (c .args .bytes .now) }

@@ -1,14 +1,15 @@
--- What the type of an opened ensemble keeps, each for the bytes bs and the number d of sections; all of it says nothing
--- of a place that holds no section.
+-- What the type of a place for an ensemble keeps, each for the bytes bs and the number d of sections. `Bare` is of a place
+-- that holds no section; the others say nothing of one. `Opens` holds all the rest in itself; the facts that readers of
+-- sections use stand apart as well, since a fact of the type is at hand without an argument.
 use mathlib.Core.Path.{_≡_}
 use mathlib.Core.Bool.{true}
 use mathlib.Core.List.{List}
-use Prim.Native.Nat.{ℕ, _+_, _*_, _<_, _≤_}
+use Prim.Native.Nat.{ℕ, _+_, _<_, _≤_}
 use lib.ListN.{length, getD}
 use Rattle.faults.specs.declared.place.Offset.{Offset}
 use Rattle.faults.specs.Questions.{allYes, firstOf}
-use Rattle.pd0.specs.Kinds.{kindOf, leastSize}
-use Rattle.pd0.specs.Layout.{offset, ident, sectionSize, cellsOf, countOf, sizeOf}
+use Rattle.pd0.specs.Kinds.{kindOf, leastSize, leaderSize}
+use Rattle.pd0.specs.Layout.{tableEnd, offset, ident, sectionSize, cellsOf, sizeOf}
 use Rattle.pd0.specs.Questions.{questions, mostCells}
 
 -- a place that holds no section holds no byte
@@ -32,7 +33,7 @@ Kept bs d offs = (k : ℕ) → k < d → at offs k ≡ offset bs k
 
 -- sections stand behind the table of offsets
 abbrev pub Behind : List ℕ → ℕ → Type 0
-Behind bs d = (k : ℕ) → k < d → 6 + 2 * d ≤ offset bs k
+Behind bs d = (k : ℕ) → k < d → tableEnd d ≤ offset bs k
 
 -- ascending, each at least 2 above the one before, so that no two share a byte
 abbrev pub Apart : List ℕ → ℕ → Type 0
@@ -44,7 +45,7 @@ Inside bs d = (k : ℕ) → k < d → offset bs k + 4 ≤ sizeOf bs
 
 -- the Fixed Leader is there, with a right number of cells
 abbrev pub Celled : List ℕ → ℕ → Type 0
-Celled bs d = 0 < d → (1 ≤ cellsOf bs) × (cellsOf bs ≤ mostCells) × (offset bs 0 + 54 ≤ sizeOf bs)
+Celled bs d = 0 < d → (1 ≤ cellsOf bs) × (cellsOf bs ≤ mostCells) × (offset bs 0 + leaderSize + 2 ≤ sizeOf bs)
 
 -- each section has its least size
 abbrev pub Filled : List ℕ → ℕ → Type 0
