@@ -5,7 +5,7 @@ ghost use Rattle.framing.specs.Stamped.{isStamp, stamped, withStamp, behindSta
 use crate::framing::Framing;
 use crate::verdict::Verdict;
 
-// What a stamp begins with, where one is judged and where one is written.
+// What every stamp begins with.
 pub const MARK: [u8; 3] = [0x4c, 0x4f, 0x47];
 
 // The one version of a stamp, a 16-bit number behind the mark.

@@ -25,13 +25,13 @@ use Rattle.pd0.specs.declared.kind.Kind.{Kind}
 use Rattle.pd0.specs.declared.kind.Kind.the-variants.{FixedLeader, VariableLeader, Velocity, Correlation, Echo, PercentGood, Status, BottomTrack, Unnamed}
 use Rattle.pd0.specs.Ensembles.{Is-ensemble, Opening-laws}
 use Rattle.pd0.specs.Kinds.{kindOf, leastSize, isNamed, leaderSize, fixedLeaderId, variableLeaderId}
-use Rattle.pd0.specs.Layout.{headerSize, tableEnd, sizeOf, countOf, offset, ident, sectionSize, cellsOf}
+use Rattle.pd0.specs.Layout.{mark, headerSize, tableEnd, sizeOf, countOf, offset, ident, sectionSize, cellsOf}
 use Rattle.pd0.specs.Questions.{wrongOffset, wrongOrder, wrongSize, hasIdent, inFrame, questions, opened, mostSections, mostCounted, mostCells}
 
 -- the answers by which all questions are answered by yes
 record Yes (bs : List ℕ) : Type 0 where
   six : leb headerSize (length bs) ≡ true
-  mark : (eqb (getD bs 0 0) 0x7f ≡ true) × (eqb (getD bs 1 0) 0x7f ≡ true)
+  mark : (eqb (getD bs 0 0) mark ≡ true) × (eqb (getD bs 1 0) mark ≡ true)
   count : (leb 2 (countOf bs) && leb (countOf bs) mostSections) ≡ true
   size : (leb (tableEnd (countOf bs) + 2) (sizeOf bs) && leb (sizeOf bs) mostCounted) ≡ true
   length-right : eqb (length bs) (sizeOf bs + 2) ≡ true

@@ -10,12 +10,12 @@ use Rattle.faults.specs.Questions.{In-order, Decided-beyond}
 use Rattle.framing.specs.Stored.{word, checksumFrom}
 use Rattle.pd0.specs.declared.kind.Kind.the-variants.{FixedLeader, VariableLeader, Unnamed}
 use Rattle.pd0.specs.Kinds.{kindOf, leastSize}
-use Rattle.pd0.specs.Layout.{tableEnd, sizeOf, countOf, offset, ident, sectionSize, cellsOf}
+use Rattle.pd0.specs.Layout.{mark, tableEnd, sizeOf, countOf, offset, ident, sectionSize, cellsOf}
 use Rattle.pd0.specs.Questions.{questions, opened, longestSize, mostCounted, mostSections, mostCells}
 
 pub record Is-ensemble (bs : List ℕ) : Type 0 where
   -- the header
-  pub marked : (getD bs 0 0 ≡ 0x7f) × (getD bs 1 0 ≡ 0x7f)
+  pub marked : (getD bs 0 0 ≡ mark) × (getD bs 1 0 ≡ mark)
   pub sections : (2 ≤ countOf bs) × (countOf bs ≤ mostSections)
   pub size : (tableEnd (countOf bs) + 2 ≤ sizeOf bs) × (sizeOf bs ≤ mostCounted)
   -- the counted bytes and their checksum are all there is

@@ -7,6 +7,10 @@ use lib.Dec.{eqb}
 use Rattle.std.specs.shelf.Lists.{between}
 use Rattle.framing.specs.Stored.{word}
 
+-- bytes 1 and 2 each
+abbrev pub mark : ℕ
+mark = 0x7f
+
 -- the bytes before the table of offsets
 abbrev pub headerSize : ℕ
 headerSize = 6

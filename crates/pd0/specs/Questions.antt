@@ -18,7 +18,7 @@ use Rattle.faults.specs.Questions.{ask, askEach, firstOf, answered}
 use Rattle.framing.specs.Stored.{word, checksumFrom}
 use Rattle.pd0.specs.declared.header.Header.{Header}
 use Rattle.pd0.specs.Kinds.{kindOf, leastSize, isNamed, fixedLeaderId, variableLeaderId, leaderSize}
-use Rattle.pd0.specs.Layout.{headerSize, tableEnd, sizeOf, countOf, offset, ident, sectionSize, cellsOf}
+use Rattle.pd0.specs.Layout.{mark, headerSize, tableEnd, sizeOf, countOf, offset, ident, sectionSize, cellsOf}
 
 -- the most counted bytes of an ensemble
 abbrev pub mostCounted : ℕ
@@ -66,8 +66,8 @@ wrongSize bs d n k = ltb (sectionSize bs d n k) (leastSize (kindOf (ident bs k))
 abbrev pub headQuestions : List ℕ → List (Option FrameFault)
 headQuestions bs =
     ask (leb headerSize (length bs)) NoHeader
-    ∷ ask (eqb (getD bs 0 0) 0x7f) (Mark (byteAt 0))
-    ∷ ask (eqb (getD bs 1 0) 0x7f) (Mark (byteAt 1))
+    ∷ ask (eqb (getD bs 0 0) mark) (Mark (byteAt 0))
+    ∷ ask (eqb (getD bs 1 0) mark) (Mark (byteAt 1))
     ∷ ask (leb 2 (countOf bs) && leb (countOf bs) mostSections) (SectionCount (byteAt 5))
     ∷ ask (leb (tableEnd (countOf bs) + 2) (sizeOf bs) && leb (sizeOf bs) mostCounted) (Size (byteAt 2))
     ∷ []
