@@ -1,5 +1,7 @@
 // Tells what is on standard input: a PD0 ensemble, an Aquadopp structure, or why
 // it is neither.
+#![tactic(auto)]
+
 ghost use Rattle.std.specs.Prelude.{◌≡◌};
 ghost use Rattle.inspect.specs.Spoken.{spoken};
 

@@ -1,6 +1,8 @@
 // Lists the PD0 ensembles of a recording on standard input, a line for each:
 // its number, its length in bytes and its number of sections. Noise and damage
 // are passed over. A summary goes to standard error.
+#![tactic(auto)]
+
 ghost use Rattle.std.specs.Prelude.{◌≤◌};
 
 use receiver::answer::Answer;

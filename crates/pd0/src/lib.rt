@@ -1,5 +1,7 @@
 // Teledyne's PD0 ensembles: opening one, its sections, and where ensembles
 // stand in a run of bytes.
+#![tactic(auto)]
+
 mod check;
 pub mod ensemble;
 mod header;

@@ -1,2 +1,4 @@
 // What stands on a receiver and on a maker's format together.
+#![tactic(auto)]
+
 pub mod line;

@@ -1,5 +1,7 @@
 // What stands on the receiver's promise: all that it asks for can hold at once,
 // and a caller has it by chaining the calls' contracts.
+#![tactic(auto)]
+
 ghost use Rattle.std.specs.Prelude.{◌≡◌, ◌≤◌, length, drop};
 ghost use Rattle.framing.specs.Laws.{Lawful};
 ghost use Rattle.receiver.specs.State.{capacity};

@@ -1,5 +1,7 @@
 // Worked examples of opening, judging and receiving, as tests. They stand in a crate of
 // their own, since a crate with tests is proved twice.
+#![tactic(auto)]
+
 #[cfg(test)]
 mod framings;
 #[cfg(test)]
