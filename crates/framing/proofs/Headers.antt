@@ -77,10 +77,10 @@ module _
 
   -- sound exactly where a frame stands, if a frame has its header and tells its own size
   pub headed_exactly :
-      (Is-frame : List ℕ → Type 0) → ((ys : List ℕ) → whole ys ≡ true → Is-frame ys)
-      → ((ys : List ℕ) → Is-frame ys → (whole ys ≡ true) × (header ≤ length ys) × (fit ys ≡ true) × (size ys ≡ length ys))
-      → (xs : List ℕ) → SoundExactly (headed header fit size whole) Is-frame xs
-  headed_exactly Is-frame into from xs n = (
+      (IsFrame : List ℕ → Type 0) → ((ys : List ℕ) → whole ys ≡ true → IsFrame ys)
+      → ((ys : List ℕ) → IsFrame ys → (whole ys ≡ true) × (header ≤ length ys) × (fit ys ≡ true) × (size ys ≡ length ys))
+      → (xs : List ℕ) → SoundExactly (headed header fit size whole) IsFrame xs
+  headed_exactly IsFrame into from xs n = (
     (λ e.
         let p = sound_parts header (length xs) (fit xs) (size xs) (whole (take (size xs) xs)) n e in
         let w = is_whole header (length xs) (fit xs) (size xs) (whole (take (size xs) xs)) n e in

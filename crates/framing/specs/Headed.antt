@@ -21,7 +21,7 @@ head_wants header fit size run =
 
 -- Sound exactly where a frame stands: the verdict on a run is sound n just where its first n bytes are a frame.
 abbrev pub SoundExactly : (List ℕ → Verdict) → (List ℕ → Type 0) → List ℕ → Type 0
-SoundExactly judged Is-frame run =
+SoundExactly judged IsFrame run =
     (n : ℕ)
-    → (judged run ≡ Sound n → (n ≤ length run) × Is-frame (take n run))
-    × (n ≤ length run → Is-frame (take n run) → judged run ≡ Sound n)
+    → (judged run ≡ Sound n → (n ≤ length run) × IsFrame (take n run))
+    × (n ≤ length run → IsFrame (take n run) → judged run ≡ Sound n)

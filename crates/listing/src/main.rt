@@ -36,7 +36,7 @@ struct Listing {
 
 // An error that no input can bring about, by the rules of the receiver.
 fn unexpected(words: &'static str) -> io::Error {
-    io::Error::from_static_message(io::ErrorKind::Other, words)
+    io::Error::other(words)
 }
 
 impl Listing {

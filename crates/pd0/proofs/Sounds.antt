@@ -23,7 +23,7 @@ is_whole bs e = answer_yes (first_fault (questions bs)) tt e
 six : (bs : List ℕ) → IsEnsemble bs → header_size ≤ length bs
 six bs s = omega (arith, s.whole, s.size)
 
-is_fit : (bs : List ℕ) → IsEnsemble bs → fit bs ≡ true
+pub is_fit : (bs : List ℕ) → IsEnsemble bs → fit bs ≡ true
 unfolding fit
 is_fit bs s =
     rw (

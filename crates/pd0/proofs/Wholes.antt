@@ -1,6 +1,6 @@
 -- An ensemble is a right header, right sections and a right checksum.
 use Rattle.std.proofs.Common.{◌≡◌, ℕ, ◌+◌, ◌-◌, ◌≤◌, true, false, eqb, List, length, get_or, take, Ok, Decides, sym, ap, ◌∙◌, subst, ⊎_elim, arith}
-use Rattle.std.proofs.lemmas.Bool.{cases_eq}
+use Rattle.std.proofs.lemmas.Bool.{cases_eq, both_ways}
 use Rattle.std.proofs.lemmas.Bool.Decides.{nat_tests, same_from_decides, Decides-eqb, Decides-like}
 use Rattle.faults.proofs.Asked.{yes_parts}
 use Rattle.faults.specs.Questions.{answered, first_fault}
@@ -15,7 +15,7 @@ use Rattle.pd0.specs.Whole.{Sectioned}
 use Rattle.pd0.proofs.Ensembles.{opening_laws, leader_size_is}
 use Rattle.pd0.proofs.KindsApart.{least_two}
 use Rattle.pd0.proofs.Places.{inside}
-use Rattle.pd0.proofs.Sounds.{opens, is_whole}
+use Rattle.pd0.proofs.Sounds.{opens, is_whole, is_fit}
 use Rattle.pd0.proofs.Walks.{ending_next, ending_last, refuted}
 
 pub whole_decides : (bs : List ℕ) → Decides (whole bs) (IsEnsemble bs)
@@ -82,11 +82,15 @@ ensemble_from bs f w s c =
       sizes = λ k l. let r = s.room k l in omega arith;
     }
 
+-- a wrong header is no ensemble's
+pub wrong_header : (bs : List ℕ) → fit bs ≡ false → false ≡ whole bs
+wrong_header bs wrong = same_from_decides false (whole bs) (refuted (λ (s : IsEnsemble bs). both_ways _ wrong (is_fit bs s))) (whole_decides bs)
+
 -- bytes with a header h whose own questions are answered by yes
 module _ (bs : List ℕ) (h : Header) (told : Ok h ≡ answered (first_fault (head_questions bs)) (header_of bs)) where
-  is_fit : fit bs ≡ true
+  told_fit : fit bs ≡ true
   unfolding fit
-  is_fit = (yes_parts (first_fault (head_questions bs)) (header_of bs) h told).0
+  told_fit = (yes_parts (first_fault (head_questions bs)) (header_of bs) h told).0
 
   is_header : h ≡ header_of bs
   is_header = (yes_parts (first_fault (head_questions bs)) (header_of bs) h told).1
@@ -112,7 +116,7 @@ module _ (bs : List ℕ) (h : Header) (told : Ok h ≡ answered (first_fault (he
       same_from_decides _ (whole bs)
       (Decides-like _
       (λ e.
-      ensemble_from bs is_fit (w ∙ ap (λ n. n + 2) size_is) (subst (λ (x : Header). Sectioned bs x.count x.size) is_header s)
+      ensemble_from bs told_fit (w ∙ ap (λ n. n + 2) size_is) (subst (λ (x : Header). Sectioned bs x.count x.size) is_header s)
       (subst (λ (n : ℕ). checksum_from 0 (take n bs) ≡ word bs n) size_is e))
       (λ (i : IsEnsemble bs). subst (λ (n : ℕ). checksum_from 0 (take n bs) ≡ word bs n) (sym size_is) i.sum)
       (Decides-eqb _ _))

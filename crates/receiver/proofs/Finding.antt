@@ -1,12 +1,12 @@
 -- The turns of find's search.
-use Rattle.std.proofs.Common.{◌≡◌, ℕ, ◌+◌, ◌<◌, ◌≤◌, Bool, true, false, cond, leb, ◌⊎◌, List, [], ◌∷◌, length, drop, Some, None, Option, sym, refl, ap, ◌∙◌, inl, inr, add-zero, add_assoc, arith}
+use Rattle.std.proofs.Common.{◌≡◌, ℕ, ◌+◌, ◌<◌, Bool, true, false, cond, leb, ◌⊎◌, List, [], ◌∷◌, length, drop, Some, None, Option, sym, refl, ap, ◌∙◌, inl, inr, add-zero, arith}
 use Rattle.framing.specs.declared.verdict.Verdict.{Verdict}
 use Rattle.framing.specs.declared.verdict.Verdict.TheVariants.{Sound, Short, Unfit}
 use Rattle.receiver.specs.declared.answer.Answer.{Answer}
 use Rattle.receiver.specs.declared.receiver.find.Turn.{Turn}
 use Rattle.receiver.specs.declared.receiver.find.Turn.TheVariants.{Keep, Wait, Over, Drop}
 use Rattle.receiver.specs.State.{State, capacity}
-use Rattle.receiver.specs.Rule.{Search, seek, seek_from, consulted, turn_by, turn_at, follow, stop, behind, comes, find_outcome, finds, Follows}
+use Rattle.receiver.specs.Rule.{Search, seek, seek_from, consulted, turn_by, follow, stop, behind, comes, find_outcome, finds, Follows}
 use Rattle.receiver.proofs.Tails.{never}
 use Rattle.receiver.proofs.Searched.{turn_held}
 

@@ -6,11 +6,10 @@ use Rattle.faults.specs.declared.line.LineFault.{LineFault}
 use Rattle.framing.specs.Laws.{Lawful, Run}
 use Rattle.framing.specs.declared.verdict.Verdict.{Verdict}
 use Rattle.framing.specs.declared.verdict.Verdict.TheVariants.{Sound}
-use Rattle.receiver.specs.declared.answer.Finding.{Finding}
 use Rattle.receiver.specs.State.{State, fresh, capacity}
-use Rattle.receiver.specs.Rule.{Search, seek_from, Event, feeds, finds, shows, passes, ends, call_of, rule, taking, feed_outcome, find_outcome, pass_outcome}
+use Rattle.receiver.specs.Rule.{Search, seek_from, feeds, finds, shows, passes, ends, taking, feed_outcome, pass_outcome}
 use Rattle.receiver.specs.Record.{Record, Span, span_at, replay, calls_of, Answered, taken, taken_by, passed, dropped, place, frames}
-use Rattle.receiver.specs.Promise.{SoundAt, Among, Holds, NoByteInTwo, Latest, IsWanting, IsOver}
+use Rattle.receiver.specs.Promise.{SoundAt, Among, Holds, NoByteInTwo}
 use Rattle.receiver.proofs.Tails.{never, Clear, run_drop, run_front, sound_more, unfit_more}
 use Rattle.receiver.proofs.Searched.{Searched, find_searched}
 use Rattle.receiver.proofs.Spans.{apart_none, apart_more}

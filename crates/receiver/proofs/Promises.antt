@@ -1,16 +1,15 @@
 -- The promise, from what every record keeps.
-use Rattle.std.proofs.Common.{◌≡◌, ℕ, ◌+◌, ◌^◌, ◌<◌, ◌≤◌, true, false, ◌⊎◌, List, [], ◌∷◌, ◌++◌, length, get_or, take, drop, Ok, Err, Result, sym, refl, ap, ◌∙◌, subst, inl, inr, ⊎_elim, arith}
-use Rattle.std.proofs.lemmas.List.{length-drop, length-take-le, take-append-drop, get_or-drop, get_or-take, ext_get_or, append-nil}
+use Rattle.std.proofs.Common.{◌≡◌, ℕ, ◌+◌, ◌<◌, ◌≤◌, ◌⊎◌, List, [], ◌∷◌, ◌++◌, length, get_or, take, drop, Ok, Err, Result, sym, refl, ap, ◌∙◌, subst, inl, inr, ⊎_elim, arith}
+use Rattle.std.proofs.lemmas.List.{length-drop, length-take-le, take-append-drop, get_or-drop, get_or-take, ext_get_or}
 use Rattle.std.proofs.lemmas.Bool.{cases_lt}
 use Rattle.faults.specs.declared.line.LineFault.{LineFault}
 use Rattle.framing.specs.Laws.{Lawful, Run, Bytes}
 use Rattle.framing.specs.declared.verdict.Verdict.{Verdict}
 use Rattle.framing.specs.declared.verdict.Verdict.TheVariants.{Sound, Short, Unfit}
-use Rattle.receiver.specs.declared.answer.Answer.{Answer}
 use Rattle.receiver.specs.declared.answer.Finding.{Finding}
 use Rattle.receiver.specs.State.{State, capacity}
-use Rattle.receiver.specs.Rule.{Outcome, comes, Event, feeds, finds, shows, passes, ends, call_of, rule, Follows, FollowsAny}
-use Rattle.receiver.specs.Record.{Record, Span, span_at, replay, calls_of, Answered, taken, taken_by, place, frames, Led}
+use Rattle.receiver.specs.Rule.{Outcome, Event, feeds, finds, shows, passes, ends, call_of, rule, Follows, FollowsAny}
+use Rattle.receiver.specs.Record.{Record, replay, calls_of, Answered, taken, taken_by, place, frames, Led}
 use Rattle.receiver.specs.Promise.{SoundAt, PassedAt, NoneInside, Agree, Latest, IsWanting, IsOver, Balance, BothPassed, AllPassed, Promise, Promised, PromisedAny}
 use Rattle.receiver.proofs.Tails.{never, Clear, bytes_take, bytes_append, run_drop, run_front, clear_unsound}
 use Rattle.receiver.proofs.Kept.{Inside, Keeps, kept, held_length, find_comes}

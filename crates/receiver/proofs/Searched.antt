@@ -1,12 +1,11 @@
 -- What find's search comes to.
-use Rattle.std.proofs.Common.{◌≡◌, ℕ, zero, suc, ◌+◌, ◌<◌, ◌≤◌, Bool, true, false, cond, List, [], ◌∷◌, length, drop, Some, None, Option, sym, refl, ap, ◌∙◌, subst, inl, inr, one-add, arith}
+use Rattle.std.proofs.Common.{◌≡◌, ℕ, zero, suc, ◌+◌, ◌<◌, ◌≤◌, Bool, true, false, cond, List, [], ◌∷◌, length, drop, Some, None, Option, sym, refl, ap, subst, inl, inr, one-add, arith}
 use Rattle.std.proofs.lemmas.Bool.{le-leb, ne_eqb}
 use Rattle.framing.specs.Laws.{Lawful, Run}
 use Rattle.framing.specs.declared.verdict.Verdict.{Verdict}
 use Rattle.framing.specs.declared.verdict.Verdict.TheVariants.{Sound, Short, Unfit}
 use Rattle.receiver.specs.declared.answer.Answer.{Answer}
 use Rattle.receiver.specs.declared.answer.Answer.TheVariants.{Wanting, Frame, Over}
-use Rattle.receiver.specs.declared.receiver.find.Turn.{Turn}
 use Rattle.receiver.specs.declared.receiver.find.Turn.TheVariants.{Wait, Drop}
 use Rattle.receiver.specs.State.{capacity}
 use Rattle.receiver.specs.Rule.{Search, seek, seek_from, turn_by, turn_at, follow, stop, behind}

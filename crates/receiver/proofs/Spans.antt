@@ -1,7 +1,7 @@
 -- Lists of passed frames.
-use Rattle.std.proofs.Common.{◌≡◌, ℕ, zero, suc, ◌+◌, ◌<◌, ◌≤◌, ◌⊎◌, List, [], ◌∷◌, length, get_or, sym, refl, ap, inl, inr, arith}
+use Rattle.std.proofs.Common.{ℕ, zero, suc, ◌+◌, ◌<◌, ◌≤◌, List, [], ◌∷◌, length, get_or, refl, inl, inr, arith}
 use Rattle.receiver.specs.Record.{Span, span_at}
-use Rattle.receiver.specs.Promise.{Among, Holds, NoByteInTwo}
+use Rattle.receiver.specs.Promise.{Among, NoByteInTwo}
 
 at_number : (fs : List Span) (i : ℕ) → i < length fs → Among (get_or fs i (span_at 0 0)) fs
 at_number [] i h = absurd (omega arith)

@@ -1,18 +1,16 @@
 -- What a find comes to, with no repetition in it.
-use Rattle.std.proofs.Common.{◌≡◌, ℕ, zero, suc, ◌+◌, ◌<◌, ◌≤◌, Bool, true, false, cond, leb, ◌⊎◌, List, [], ◌∷◌, length, drop, Some, None, Option, sym, refl, ap, ◌∙◌, subst, inl, inr, one-add, arith}
+use Rattle.std.proofs.Common.{◌≡◌, ℕ, zero, suc, ◌+◌, ◌<◌, ◌≤◌, Bool, true, false, cond, leb, List, [], ◌∷◌, length, drop, Some, None, Option, sym, refl, ap, ◌∙◌, subst, inl, inr, one-add, arith}
 use Rattle.std.proofs.lemmas.Bool.{leb-true, leb-false}
 use Rattle.framing.specs.declared.verdict.Verdict.{Verdict}
 use Rattle.framing.specs.declared.verdict.Verdict.TheVariants.{Sound, Short, Unfit}
 use Rattle.receiver.specs.declared.answer.Answer.{Answer}
 use Rattle.receiver.specs.declared.answer.Answer.TheVariants.{Wanting, Frame}
 use Rattle.receiver.specs.declared.answer.Finding.{Finding}
-use Rattle.receiver.specs.declared.receiver.find.Turn.{Turn}
-use Rattle.receiver.specs.declared.receiver.find.Turn.TheVariants.{Keep, Wait, Over, Drop}
+use Rattle.receiver.specs.declared.receiver.find.Turn.TheVariants.{Wait, Drop}
 use Rattle.receiver.specs.State.{State, capacity}
-use Rattle.receiver.specs.Rule.{Search, seek, seek_from, consulted, turn_by, turn_at, follow, stop, behind, Outcome, Event, finds, Follows, NoStart, Says, StopsFirst}
+use Rattle.receiver.specs.Rule.{Search, seek, seek_from, turn_by, follow, stop, behind, Outcome, Event, finds, Follows, NoStart, Says, StopsFirst}
 use Rattle.receiver.proofs.Tails.{never}
 use Rattle.receiver.proofs.Searched.{turn_held}
-use Rattle.receiver.proofs.Finding.{dropped_one}
 
 module _ (J : List ℕ → Verdict) where
   -- what an answer says, by the parts of the two states

@@ -1,14 +1,12 @@
 -- The line of an ensemble, and of what is none.
-use Rattle.std.proofs.Common.{◌≡◌, ℕ, ◌+◌, ◌-◌, ◌*◌, ◌<◌, ◌≤◌, Bool, true, false, cond, leb, List, [], ◌∷◌, ◌++◌, map, length, get_or, take, drop, is_some, is_err, Some, None, Ok, Err, Option, Result, sym, refl, ap, ◌∙◌, arith, Bor}
+use Rattle.std.proofs.Common.{◌≡◌, ℕ, ◌+◌, ◌*◌, ◌<◌, ◌≤◌, Bool, true, false, cond, leb, List, [], ◌∷◌, ◌++◌, map, length, get_or, take, drop, is_some, is_err, Some, None, Ok, Err, Option, Result, sym, refl, ap, ◌∙◌, arith, Bor}
 use Rattle.std.proofs.lemmas.List.{get_or-take, get_or-drop}
 use Rattle.faults.specs.Questions.{ask, first_fault, answered, all_yes}
 use Rattle.faults.specs.declared.line.LineFault.{LineFault}
 use Rattle.faults.specs.declared.line.LineFault.TheVariants.{InSection, NoFrame}
 use Rattle.faults.specs.declared.section.SectionFault.{SectionFault}
 use Rattle.faults.specs.declared.section.SectionFault.TheVariants.{Space}
-use Rattle.framing.specs.Stored.{word}
 use Rattle.pd0.specs.Ensembles.{IsEnsemble}
-use Rattle.pd0.specs.Kinds.{least_size}
 use Rattle.pd0.specs.Layout.{count_of, size_of, offset, section_size}
 use Rattle.pd0.specs.Questions.{questions, opened}
 use Rattle.pd0.proofs.Ensembles.{opening_laws}
@@ -17,7 +15,7 @@ use Rattle.receiver.specs.View.{When, shown}
 use Rattle.receiver.specs.State.{State, length_of}
 use Rattle.receiver.proofs.Tails.{never}
 use Rattle.station.specs.Lines.{variable_leader, ensemble_number, line_text, written, spaced, spaced_buffer}
-use Rattle.station.specs.Listed.{frame_questions, frame_lined, frame_buffer, found_bytes, in_section, line_questions, lined, lined_buffer}
+use Rattle.station.specs.Listed.{frame_questions, frame_lined, frame_buffer, in_section, lined, lined_buffer}
 
 -- a byte of the Variable Leader
 leader_byte : (bs : List ℕ) → IsEnsemble bs → (i : ℕ) → i < 65 → get_or (variable_leader bs) i 0 ≡ get_or bs (offset bs 1 + i) 0

@@ -7,4 +7,4 @@ use Rattle.aquadopp.proofs.judging.is_structure.Goals as goal
 
 pub returns : goal.returns
 unfolding whole
-returns c = c.is-ok.ensures.value ∙ ok_yes (first_fault (questions c.args.bytes.now)) tt _ c.check.ensures.value
+returns c = c.is_ok.ensures.value ∙ ok_yes (first_fault (questions c.args.bytes.now)) tt _ c.check.ensures.value

@@ -7,8 +7,8 @@ use Rattle.aquadopp.specs.Verdicts.{fit}
 use Rattle.aquadopp.proofs.Sounds.{exactly_structures}
 use Rattle.aquadopp.proofs.judging.size_wanted.Goals as goal
 
-pub returns-then-run-lt-HEAD-SIZE : goal.returns-then-run-lt-HEAD-SIZE
-returns-then-run-lt-HEAD-SIZE c = record { value = search rules; exactly = exactly_structures c.args.run.now }
+pub returns-then-run-lt-HEAD_SIZE : goal.returns-then-run-lt-HEAD_SIZE
+returns-then-run-lt-HEAD_SIZE c = record { value = search rules; exactly = exactly_structures c.args.run.now }
 
 pub returns-in-Ok : goal.returns-in-Ok
 unfolding fit
@@ -16,7 +16,7 @@ returns-in-Ok c =
     let bs = c.args.run.now in
     let p = yes_parts (first_fault (head_questions bs)) (size_told bs) c.in-Ok.size c.in-Ok.ensures.value in
     record {
-      value = rw (le-ltb (length bs) 4 c.if-run-lt-HEAD-SIZE.false, p.0, p.1);
+      value = rw (le-ltb (length bs) 4 c.if-run-lt-HEAD_SIZE.false, p.0, p.1);
       exactly = exactly_structures bs;
     }
 
@@ -27,7 +27,7 @@ returns-in-Err c =
     record {
       value =
           rw (
-            le-ltb (length bs) 4 c.if-run-lt-HEAD-SIZE.false,
+            le-ltb (length bs) 4 c.if-run-lt-HEAD_SIZE.false,
             no_part (first_fault (head_questions bs)) (size_told bs) _ c.in-Err.ensures.value,
           );
       exactly = exactly_structures bs;

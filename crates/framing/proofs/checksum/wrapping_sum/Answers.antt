@@ -8,8 +8,8 @@ loop-k-preserved c =
     let k = c.loop-k.k in
     let e : 64 * k + 64 ≡ 64 * (k + 1) = omega arith in
     let s = sum_more bs (64 * k) (64 * k + 64) (omega arith) in
-    subst (λ (j : ℕ). (c.loop-k.total + c.part-sum-total.result) % 65536 ≡ sum (take j bs) % 65536) e
-    (omega (arith, c.loop-k.invariant, c.part-sum-total.ensures))
+    subst (λ (j : ℕ). (c.loop-k.total + c.part_sum-total.result) % 65536 ≡ sum (take j bs) % 65536) e
+    (omega (arith, c.loop-k.invariant, c.part_sum-total.ensures))
 
 pub returns : goal.returns
 returns c =
@@ -17,4 +17,4 @@ returns c =
     let k : c.loop-k.k ≡ n = omega arith in
     let s = sum_rest c.args.bytes.now (64 * n) in
     let i = subst (λ (j : ℕ). c.loop-k.total ≡ sum (take (64 * j) c.args.bytes.now) % 65536) k c.loop-k.invariant in
-    omega (arith, c.part-sum.ensures)
+    omega (arith, c.part_sum.ensures)

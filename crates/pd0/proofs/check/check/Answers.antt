@@ -12,6 +12,6 @@ returns-in-Ok c =
     let bs = c.args.bytes.now in
     let p = yes_parts (first_fault (head_questions bs)) (header_of bs) c.in-Ok.header c.in-Ok.ensures.value in
     record {
-      value = ap Ok p.1 ∙ sym (yes_answer (first_fault (questions bs)) (header_of bs) (sym c.if-is-whole.ensures));
+      value = ap Ok p.1 ∙ sym (yes_answer (first_fault (questions bs)) (header_of bs) (sym c.if-is_whole.ensures));
       laws = opening_laws bs;
     }

@@ -4,4 +4,4 @@ use Rattle.pd0.proofs.check.check_table.Goals as goal
 
 pub returns : goal.returns
 returns c =
-    record { value = search rules; tabled = let t = sym c.in-default.ensures.value in search (rules, tabled_from) }
+    record { value = search rules; tabled = let t = sym c.in_default.ensures.value in search (rules, tabled_from) }

@@ -7,8 +7,8 @@ use Rattle.pd0.specs.Verdicts.{fit}
 use Rattle.pd0.proofs.Sounds.{exactly_ensembles}
 use Rattle.pd0.proofs.judging.size_wanted.Goals as goal
 
-pub returns-then-run-lt-HEADER-SIZE : goal.returns-then-run-lt-HEADER-SIZE
-returns-then-run-lt-HEADER-SIZE c = record { value = search rules; exactly = exactly_ensembles c.args.run.now }
+pub returns-then-run-lt-HEADER_SIZE : goal.returns-then-run-lt-HEADER_SIZE
+returns-then-run-lt-HEADER_SIZE c = record { value = search rules; exactly = exactly_ensembles c.args.run.now }
 
 pub returns-in-Ok : goal.returns-in-Ok
 unfolding fit
@@ -16,7 +16,7 @@ returns-in-Ok c =
     let bs = c.args.run.now in
     let p = yes_parts (first_fault (head_questions bs)) (header_of bs) c.in-Ok.header c.in-Ok.ensures.value in
     record {
-      value = rw (le-ltb (length bs) 6 c.if-run-lt-HEADER-SIZE.false, p.0, p.1);
+      value = rw (le-ltb (length bs) 6 c.if-run-lt-HEADER_SIZE.false, p.0, p.1);
       exactly = exactly_ensembles bs;
     }
 
@@ -27,7 +27,7 @@ returns-in-Err c =
     record {
       value =
           rw (
-            le-ltb (length bs) 6 c.if-run-lt-HEADER-SIZE.false,
+            le-ltb (length bs) 6 c.if-run-lt-HEADER_SIZE.false,
             no_part (first_fault (head_questions bs)) (header_of bs) _ c.in-Err.ensures.value,
           );
       exactly = exactly_ensembles bs;

@@ -14,7 +14,7 @@ returns c =
       rule = c.find-finding.ensures.rule;
       first = c.find-finding.ensures.first;
       promise = c.find-finding.ensures.promise (omega arith);
-      known = when c.is-err-ensemble.result (λ e n q.
-          let none = none_found s.found s.held c.frame.result c.frame.ensures.value (sym c.is-err-ensemble.ensures.value ∙ e) in
+      known = when c.is_err-ensemble.result (λ e n q.
+          let none = none_found s.found s.held c.frame.result c.frame.ensures.value (sym c.is_err-ensemble.ensures.value ∙ e) in
           ((exactly_ensembles t.held n).0 (found_sound judged_run s _ t n c.find-finding.ensures.first none q)).1);
     }

@@ -9,7 +9,7 @@ returns c =
       start = search (rules, length_push);
       bound = search rules;
       text =
-          c.put-decimal.ensures.text
+          c.put_decimal.ensures.text
           ∙ byte_before (decimal c.args.n) c.args.behind c.args.end c.args.line.now (search rules) (search rules);
       before = search (rules, take-set-le);
     }

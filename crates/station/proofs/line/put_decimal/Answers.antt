@@ -2,8 +2,8 @@ use Rattle.std.proofs.Common.{◌≤◌, ◌∙◌, rules}
 use Rattle.station.proofs.Digits.{few_digits, one_digit, one_more_digit, room, kept_before, digit_more, digit_all}
 use Rattle.station.proofs.line.put_decimal.Goals as goal
 
-pub overflow-sub-at : goal.overflow-sub-at
-overflow-sub-at c = search (rules, room)
+pub overflow_sub-at : goal.overflow_sub-at
+overflow_sub-at c = search (rules, room)
 
 pub bounds-line-at : goal.bounds-line-at
 bounds-line-at c = let h : 1 ≤ c.loop-rest.at = search (rules, room) in search rules
@@ -18,8 +18,8 @@ loop-rest-preserved c =
       search (rules, kept_before),
     )
 
-pub overflow-sub-at-2 : goal.overflow-sub-at-2
-overflow-sub-at-2 c = search (rules, room)
+pub overflow_sub-at-2 : goal.overflow_sub-at-2
+overflow_sub-at-2 c = search (rules, room)
 
 pub bounds-line-at-2 : goal.bounds-line-at-2
 bounds-line-at-2 c = let h : 1 ≤ c.loop-rest.at = search (rules, room) in search rules

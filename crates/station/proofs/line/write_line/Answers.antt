@@ -10,10 +10,10 @@ returns c =
     let bs = c.args.bytes.now in
     let out = c.args.out.now in
     let line =
-    line_from bs _ _ _ _ _ c.ensemble-number.ensures c.byte-sections.ensures
-    c.put-column-at.ensures.text c.put-column-at-2.ensures.text c.put-column-at-3.ensures.text (simp length-drop (omega arith)) in
+    line_from bs _ _ _ _ _ c.ensemble_number.ensures c.byte-sections.ensures
+    c.put_column-at.ensures.text c.put_column-at-2.ensures.text c.put_column-at-3.ensures.text (simp length-drop (omega arith)) in
     record {
-      value = c.write-front.ensures.value ∙ ap (λ text. spaced text out) line ∙ sym (ensemble_lined bs out c.requires);
-      buffer = c.write-front.ensures.buffer ∙ ap (λ text. spaced_buffer text out) line ∙ sym (ensemble_buffer bs out c.requires);
-      bound = c.write-front.ensures.bound;
+      value = c.write_front.ensures.value ∙ ap (λ text. spaced text out) line ∙ sym (ensemble_lined bs out c.requires);
+      buffer = c.write_front.ensures.buffer ∙ ap (λ text. spaced_buffer text out) line ∙ sym (ensemble_buffer bs out c.requires);
+      bound = c.write_front.ensures.bound;
     }

@@ -1,4 +1,4 @@
-use Rattle.std.proofs.Common.{◌≡◌, ℕ, List, Ok, sym, refl, ap, ◌∙◌, arith}
+use Rattle.std.proofs.Common.{ℕ, List, Ok, sym, refl, ap, ◌∙◌, arith}
 use Rattle.framing.specs.declared.verdict.Verdict.{Verdict}
 use Rattle.receiver.specs.Rule.{found_frame}
 use Rattle.receiver.specs.State.{length_of}

@@ -1,19 +1,18 @@
-use Rattle.std.proofs.Common.{◌≡◌, ℕ, ◌+◌, ◌-◌, ◌<◌, ◌≤◌, ◌⊎◌, length, drop, sym, refl, ap, ◌∙◌, ⊎_elim, arith, rules}
+use Rattle.std.proofs.Common.{◌≡◌, ◌+◌, ◌≤◌, length, drop, sym, refl, ap, ◌∙◌, ⊎_elim, arith, rules}
 use Rattle.std.proofs.lemmas.List.Edits.{length-between}
 use Rattle.framing.specs.Laws.{Run}
-use Rattle.framing.specs.declared.verdict.Verdict.TheVariants.{Sound}
 use Rattle.receiver.specs.declared.receiver.find.Turn.TheVariants.{Keep, Wait, Over, Drop}
-use Rattle.receiver.specs.State.{length_of, stretch, room}
+use Rattle.receiver.specs.State.{length_of, room}
 use Rattle.receiver.specs.View.{view}
 use Rattle.receiver.proofs.Buffer.{stretch_rest}
 use Rattle.receiver.proofs.Promises.{promised_found}
-use Rattle.receiver.proofs.Finding.{turn_of, kept_sound, dropped_one, ahead_start, at_keep, at_wait, at_over, at_drop}
+use Rattle.receiver.proofs.Finding.{turn_of, kept_sound, dropped_one, at_keep, at_wait, at_over, at_drop}
 use Rattle.receiver.proofs.Stopping.{stops_first}
 use Rattle.receiver.proofs.receiver.Receiver.search.Goals as goal
 
 -- a kept frame lies within the held bytes
-pub invariant-of-self : goal.invariant-of-self
-invariant-of-self g c =
+pub invariant_of-self : goal.invariant_of-self
+invariant_of-self g c =
     let s = c.loop-n.self in
     let J = g.F.Framing.judged c.args.framing.now in
     let n = c.in-Keep.n in
@@ -26,7 +25,7 @@ invariant-of-self g c =
     ⊎_elim (λ q. omega (arith, s.whole, ap length_of q))
     (λ q. omega (arith, (g.met.F.Framing.lawful c.args.framing.now).size (view s).held n run q, long))
     (kept_sound J s.found s.ended (view s).held n e) in
-    (s.ordered, (s.inside, (s.few, (fits, tt))))
+    record { ordered = s.ordered; inside = s.inside; few = s.few; whole = fits }
 
 pub returns-in-Keep : goal.returns-in-Keep
 returns-in-Keep g c =

@@ -15,7 +15,7 @@ returns-then-self c =
     let s = view c.args.self.now in
     let bs = c.args.bytes.now in
     let by = λ (J : List ℕ → Verdict). feeds_ended J s bs c.if-self.true in
-    record { rule = by; promise = promised_fed s s bs _ (λ k. (c.type-inv.bytes k).fits) by; bound = omega arith; kept = refl }
+    record { rule = by; promise = promised_fed s s bs _ (λ k. (c.type_inv.bytes k).fits) by; bound = omega arith; kept = refl }
 
 -- what was copied
 copied : (bs ys : List ℕ) (n : ℕ) → ys ≡ take (n - 0) bs → n ≤ length bs → (ys ≡ take n bs) × (length ys ≡ n)
@@ -24,16 +24,16 @@ copied bs ys n e le = let f : ys ≡ take n bs = e ∙ ap (λ k. take k bs) (ome
 pub returns : goal.returns
 returns c =
     let r = c.args.self.now in
-    let m = c.make-room.new.self in
+    let m = c.make_room.new.self in
     let bs = c.args.bytes.now in
-    let ys = c.copy-from-slice.new.self in
+    let ys = c.copy_from_slice.new.self in
     let n = c.min-count.result in
     let k = m.end + n - m.end in
-    let q = copied bs ys n c.copy-from-slice.ensures.after (omega arith) in
+    let q = copied bs ys n c.copy_from_slice.ensures.after (omega arith) in
     let long : length ys ≡ k = q.1 ∙ omega arith in
     let le : m.end + k ≤ length m.bytes = omega arith in
-    let same = c.make-room.ensures.same in
+    let same = c.make_room.ensures.same in
     let count : n ≡ taking (view r).held bs = omega (arith, length-between r.bytes r.start r.end (omega arith)) in
     let held = put_behind m.bytes ys m.end k m.start (m.end + n - m.start) long le m.ordered (omega arith) ∙ ap (λ (x : State). x.held ++ ys) same ∙ ap (λ z. (view r).held ++ z) q.0 in
     let by = λ (J : List ℕ → Verdict). feeds_open J (view r) bs n _ c.if-self.false count held (ap (λ (x : State). x.found) same) (ap (λ (x : State). x.ended) same) in
-    record { rule = by; promise = promised_fed (view r) _ bs _ (λ i. (c.type-inv.bytes i).fits) by; bound = omega arith; kept = tt }
+    record { rule = by; promise = promised_fed (view r) _ bs _ (λ i. (c.type_inv.bytes i).fits) by; bound = omega arith; kept = tt }
