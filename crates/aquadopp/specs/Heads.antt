@@ -1,5 +1,5 @@
 -- The head of a structure is seen in its four bytes, and tells a size of at most 42.
-use Rattle.std.specs.Prelude.{◌≡◌, ℕ, ◌^◌, ◌<◌, ◌≤◌, true, false, List, [], ◌∷◌, ◌++◌, length, take, drop, Some, ◌==◌, nat_eq, nat_le}
+use Rattle.std.specs.Prelude.{◌≡◌, ℕ, ◌<◌, ◌≤◌, true, false, List, [], ◌∷◌, ◌++◌, length, take, drop, Some, ◌==◌, nat_eq, nat_le}
 use Rattle.std.proofs.Common.{sym, ap, subst, ◌∙◌, arith}
 use Rattle.std.proofs.lemmas.Bool.{le-leb, ne_eqb}
 use Rattle.std.proofs.lemmas.Bool.Decides.{nat_tests}
@@ -8,10 +8,8 @@ use Rattle.faults.proofs.Asked.{refused_at}
 use Rattle.faults.specs.declared.frame.FrameFault.TheVariants.{StructureLength, StructureChecksum}
 use Rattle.faults.specs.Least.{or_else}
 use Rattle.faults.specs.Questions.{ask, first_fault, all_yes, answered, DecidedBeyond}
-use Rattle.framing.proofs.Headers.{headed_lawful}
-use Rattle.framing.specs.Laws.{Lawful}
 use Rattle.aquadopp.specs.Structures.{head_questions, opened, id_of, is_sealed, size_told, longest_size}
-use Rattle.aquadopp.specs.Verdicts.{fit, whole, judged_run}
+use Rattle.aquadopp.specs.Verdicts.{fit}
 
 pub sized : (xs : List ℕ) → 4 ≤ length xs → fit xs ≡ true → (1 ≤ size_told xs) × (size_told xs ≤ longest_size)
 unfolding fit
@@ -36,12 +34,6 @@ seen xs more h = (
   ap (λ os. all_yes (first_fault os)) (head_seen xs more h),
   rw (get_or_append_left xs more 0 2 (omega arith), get_or_append_left xs more 0 3 (omega arith)),
 )
-
-pub range : (1 ≤ 4) × (4 ≤ longest_size) × (longest_size < 2 ^ 64)
-range = (omega arith, omega arith, omega arith)
-
-pub aquadopp_lawful : Lawful judged_run longest_size
-aquadopp_lawful = headed_lawful 4 fit size_told whole longest_size range sized seen
 
 -- a run that is longer than any structure has a length that is not the told one
 too_long : (xs : List ℕ) → longest_size < length xs → opened xs ≡ answered (or_else (first_fault (head_questions xs)) (Some StructureLength)) (id_of xs)

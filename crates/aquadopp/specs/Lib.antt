@@ -1,3 +1,5 @@
+pub mod Heads
+pub mod Opened
+pub mod Sounds
 pub mod Structures
 pub mod Verdicts
-pub mod Heads

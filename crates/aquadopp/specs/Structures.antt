@@ -9,9 +9,13 @@ use Rattle.framing.specs.Stored.{word, checksum_from}
 abbrev pub id_of : List ℕ → ℕ
 id_of bs = slice_index bs 1
 
--- bytes 3 and 4 are the size in 16-bit words; here in bytes
+-- bytes 3 and 4 are the size in 16-bit words
+abbrev pub words_of : List ℕ → ℕ
+words_of bs = word bs 2
+
+-- the size in bytes
 abbrev pub size_told : List ℕ → ℕ
-size_told bs = 2 * word bs 2
+size_told bs = 2 * words_of bs
 
 -- ids 01 and 80 have 21 words, id 06 has 18, and there is no other
 abbrev pub agrees : ℕ → ℕ → Bool
@@ -38,7 +42,7 @@ abbrev pub head_questions : List ℕ → List (Option FrameFault)
 head_questions bs =
     ask (nat_le 4 (length bs)) NoStructure
     ∷ ask (slice_index bs 0 == sync) Sync
-    ∷ ask (agrees (id_of bs) (word bs 2)) StructureSize
+    ∷ ask (agrees (id_of bs) (words_of bs)) StructureSize
     ∷ []
 
 -- what is asked of the whole
@@ -48,9 +52,9 @@ whole_questions bs =
     ∷ ask (is_sealed bs) StructureChecksum
     ∷ []
 
--- the size that a right head tells
+-- the size in words that a right head tells
 abbrev pub head_told : List ℕ → Result ℕ FrameFault
-head_told bs = answered (first_fault (head_questions bs)) (size_told bs)
+head_told bs = answered (first_fault (head_questions bs)) (words_of bs)
 
 abbrev pub questions : List ℕ → List (Option FrameFault)
 questions bs = head_questions bs ++ whole_questions bs
@@ -62,7 +66,7 @@ opened bs = answered (first_fault (questions bs)) (id_of bs)
 -- What a structure is, with no order of questions.
 pub record IsStructure (bs : List ℕ) : Type 0 where
   pub first : slice_index_or bs 0 0 ≡ sync
-  pub size : agrees (id_of bs) (word bs 2) ≡ true
+  pub size : agrees (id_of bs) (words_of bs) ≡ true
   pub whole : length bs ≡ size_told bs
   pub sum : structure_sum (take (length bs - 2) bs) ≡ word bs (length bs - 2)
 

@@ -3,7 +3,7 @@ ghost use Rattle.faults.specs.Questions.{answered, first_fault};
 ghost use Rattle.aquadopp.specs.Structures.{agrees, head_told, structure_sum, is_sealed, questions, opened, OpeningLaws};
 
 use faults::frame::FrameFault;
-use framing::checksum::checksum_from;
+use framing::checksum;
 
 // The bytes of the head: the sync byte, the id and the size.
 pub(crate) const HEAD_SIZE: usize = 4;
@@ -25,10 +25,11 @@ fn is_size_of(words: u16, id: u8) -> bool
     }
 }
 
-// The size in bytes that the head tells, where sync, id and size are right.
-pub(crate) fn told_size(bytes: &[u8]) -> Result<usize, FrameFault>
+// The size in 16-bit words that the head tells, where sync, id and size are
+// right.
+pub(crate) fn told_words(bytes: &[u8]) -> Result<u16, FrameFault>
     ensures value { result ≡ head_told bytes.now }
-    ensures range { IfOk result (λ n. (2 ≤ n) × (4 ≤ length bytes.now)) }
+    ensures range { IfOk result (λ n. (1 ≤ n) × (4 ≤ length bytes.now)) }
 {
     if bytes.len() < HEAD_SIZE {
         return Err(FrameFault::NoStructure);
@@ -40,33 +41,35 @@ pub(crate) fn told_size(bytes: &[u8]) -> Result<usize, FrameFault>
     if !is_size_of(words, bytes[1]) {
         return Err(FrameFault::StructureSize);
     }
-    Ok(2 * words as usize)
+    Ok(words)
 }
 
-// The checksum of all bytes before it.
+// The checksum of all bytes before it. It stays beside the other maker's, one
+// line over the sum of both, so that no caller has to know what it starts from.
 pub fn checksum(bytes: &[u8]) -> u16
     ensures { result ≡ structure_sum bytes.now }
 {
-    checksum_from(CHECKSUM_START, bytes)
+    checksum::checksum_from(CHECKSUM_START, bytes)
 }
 
 // Whether the last two bytes are the checksum of all before them.
+#[tactic(auto, unfolding(crate::specs::Structures::is_sealed))]
 fn is_sealed(bytes: &[u8]) -> bool
     requires { 2 ≤ length bytes.now }
     ensures { result ≡ is_sealed bytes.now }
 {
-    let end = bytes.len() - 2;
-    checksum(&bytes[0..end]) == u16::from_le_bytes([bytes[end], bytes[end + 1]])
+    checksum::is_sealed(CHECKSUM_START, bytes)
 }
 
 // Asks every question of a structure.
+#[tactic(auto, using(crate::specs::Opened::opening_laws))]
 pub(crate) fn check(bytes: &[u8]) -> Result<(), FrameFault>
     ensures value { result ≡ answered (first_fault (questions bytes.now)) tt }
     ensures laws { OpeningLaws bytes.now }
     ensures room { OnOk result (4 ≤ length bytes.now) }
 {
-    let size = told_size(bytes)?;
-    if bytes.len() != size {
+    let words = told_words(bytes)?;
+    if bytes.len() != 2 * usize::from(words) {
         return Err(FrameFault::StructureLength);
     }
     if !is_sealed(bytes) {
@@ -76,7 +79,7 @@ pub(crate) fn check(bytes: &[u8]) -> Result<(), FrameFault>
 }
 
 // Opens a structure: its id, or the fault of the first question that is
-// answered by no.
+// answered by no. By the project's rule the id is told as the byte that it is.
 pub fn open(bytes: &[u8]) -> Result<u8, FrameFault>
     ensures value { result ≡ opened bytes.now }
     ensures laws { OpeningLaws bytes.now }

@@ -1,5 +1,5 @@
 -- Laws of questions that are asked in order.
-use Rattle.std.proofs.Common.{◌≡◌, ℕ, zero, suc, ◌<◌, true, false, List, [], ◌∷◌, ◌++◌, length, get_or, is_ok, Some, None, Ok, Err, Option, Result, refl, arith}
+use Rattle.std.proofs.Common.{◌≡◌, ℕ, zero, suc, ◌<◌, true, false, List, [], ◌∷◌, ◌++◌, length, get_or, Some, None, Ok, Err, Option, refl, arith}
 use Rattle.std.proofs.lemmas.Bool.{false≢true}
 use Rattle.faults.specs.Least.{or_else}
 use Rattle.faults.specs.Questions.{first_fault, answered, all_yes, FirstNo, EachYes, InOrder}
@@ -45,11 +45,6 @@ module _ {F : Type 0} where
   -- the first no decides
   pub in_order : {X : Type 0} (os : List (Option F)) (x : X) → InOrder os (answered (first_fault os) x)
   in_order os x = by_first os (first_fault os) x refl
-
-  -- there is an answer where every question was answered by yes
-  pub ok_yes : {X : Type 0} (o : Option F) (x : X) (r : Result X F) → r ≡ answered o x → is_ok r ≡ all_yes o
-  ok_yes None x r e = rw e
-  ok_yes (Some f) x r e = rw e
 
   pub yes_answer : {X : Type 0} (o : Option F) (x : X) → all_yes o ≡ true → answered o x ≡ Ok x
   yes_answer None x e = refl

@@ -1,13 +1,9 @@
--- Steps of a loop that looks for the first of several.
-use Rattle.std.proofs.Common.{◌≡◌, ℕ, zero, suc, ◌+◌, ◌<◌, Bool, true, false, cond, is_some, Some, None, Option, sym, refl, ap, ⊎_elim, add-one, arith}
-use Rattle.std.proofs.lemmas.Bool.{cases_eq}
+-- Looking for the first of several.
+use Rattle.std.proofs.Common.{◌≡◌, ℕ, zero, suc, ◌<◌, Bool, true, false, cond, is_some, Some, None, Option, refl, ⊎_elim, arith}
+use Rattle.std.proofs.lemmas.Bool.{cases_eq, both_ways}
 use Rattle.faults.specs.Least.{least, or_else, IsLeast}
 
--- one turn more that finds nothing
-pub least_more : (p : ℕ → Bool) (i : ℕ) → least p i ≡ None → p i ≡ false → least p (i + 1) ≡ None
-least_more p i e f = rw (add-one, e, f)
-
--- the turn that finds it
+-- none before it, and it passes
 pub least_found : (p : ℕ → Bool) (n i : ℕ) → least p i ≡ None → p i ≡ true → i < n → least p n ≡ Some i
 least_found p zero i e t h = absurd (omega arith)
 least_found p (suc n) i e t h =
@@ -46,9 +42,10 @@ pub least_some : (p : ℕ → Bool) (n i : ℕ) → least p n ≡ Some i → (i 
 least_some p zero i e = absurd (let z : ◌≡◌ {A = ℕ} 0 1 = cc in omega arith)
 least_some p (suc n) i e = some_step p n i (least p n) (p n) refl e (least_some p n i)
 
--- the turn that finds it, for one that only asks whether there is any
-pub some_found : (p : ℕ → Bool) (n i : ℕ) → least p i ≡ None → p i ≡ true → i < n → true ≡ is_some (least p n)
-some_found p n i e t h = sym (ap is_some (least_found p n i e t h))
+-- where one below passes, there is a first
+pub any : (p : ℕ → Bool) (n j : ℕ) → j < n → p j ≡ true → (o : Option ℕ) → least p n ≡ o → is_some o ≡ true
+any p n j l t None e = absurd (both_ways (p j) (least_none p n j e l) t)
+any p n j l t (Some i) e = refl
 
 -- nothing below what is found passes
 before_step :

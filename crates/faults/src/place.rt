@@ -11,7 +11,8 @@ pub struct Offset(pub u16);
 pub struct ByteNumber(pub u32);
 
 impl ByteNumber {
-    // The place of a fault whose rule names no byte.
+    // The place of a fault whose rule names no byte. It is no Option: by the
+    // project's rule a place is a number that is told, and 0 there.
     pub const NONE: ByteNumber = ByteNumber(0);
 }
 
@@ -20,5 +21,14 @@ impl From<Offset> for ByteNumber {
 
     fn from(o: Offset) -> ByteNumber {
         ByteNumber(o.0 as u32 + 1)
+    }
+}
+
+// An offset as a place in the bytes at hand.
+impl From<Offset> for usize {
+    ghost from_gives = { λ o r. r ≡ o.0 };
+
+    fn from(o: Offset) -> usize {
+        usize::from(o.0)
     }
 }

@@ -5,3 +5,4 @@ pub mod Stamped
 pub mod Stored
 pub mod Pairs
 pub mod Stamps
+pub mod Headers

@@ -5,6 +5,7 @@
 
 pub mod checksum;
 pub mod framing;
+pub mod headed;
 pub mod pair;
 pub mod stamped;
 pub mod verdict;

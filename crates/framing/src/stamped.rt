@@ -15,11 +15,12 @@ pub const VERSION: u16 = 1;
 pub const STAMP_SIZE: usize = 9;
 
 // Whether a run begins with the mark and the version.
+#[tactic(auto, unfolding(crate::specs::Stamped::is_stamp))]
 fn has_stamp(run: &[u8]) -> bool
     requires { 5 ≤ length run.now }
     ensures { result ≡ is_stamp run.now }
 {
-    run[0..3] == MARK[0..3] && u16::from_le_bytes([run[3], run[4]]) == VERSION
+    run.starts_with(&MARK) && u16::from_le_bytes([run[3], run[4]]) == VERSION
 }
 
 // The verdict on what follows a stamp, as one on the stamp too.

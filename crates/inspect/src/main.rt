@@ -31,18 +31,6 @@ fn read_input(rt: &HostRuntime) -> io::Result<Vec<u8>> {
     Ok(kept)
 }
 
-// A line for one section; none for a number that has no section.
-fn section_line(heap: Global, ensemble: &Ensemble, number: usize) -> Result<String, AllocError> {
-    let (Some(section), Some(place)) = (ensemble.section(number), ensemble.first_byte(number))
-    else {
-        return Ok(String::new(heap));
-    };
-    let kind = section.kind();
-    let first = place.0;
-    let length = section.bytes().len();
-    format!(in heap; "section {number}: {kind}, first byte {first}, length {length}\n")
-}
-
 // What an ensemble holds, a line for it and one for each section.
 fn ensemble_report(heap: Global, ensemble: &Ensemble) -> Result<String, AllocError> {
     let length = ensemble.bytes().len();
@@ -52,7 +40,16 @@ fn ensemble_report(heap: Global, ensemble: &Ensemble) -> Result<String, AllocErr
         "PD0 ensemble: length {length}, sections {sections}, cells {cells}\n"
     )?;
     for number in 1..=sections {
-        report.push_str(section_line(heap, ensemble, number)?.as_str())?;
+        // by number, since the number is printed; each has a section
+        if let Some((section, first)) = ensemble.section(number).zip(ensemble.first_byte(number)) {
+            let kind = section.kind();
+            let first = first.0;
+            let length = section.bytes().len();
+            writeln!(
+                report,
+                "section {number}: {kind}, first byte {first}, length {length}"
+            )?;
+        }
     }
     Ok(report)
 }
@@ -62,7 +59,7 @@ fn ensemble_report(heap: Global, ensemble: &Ensemble) -> Result<String, AllocErr
 fn refusal(bytes: &[u8], as_ensemble: SectionFault, as_structure: FrameFault) -> SectionFault
     ensures { result ≡ spoken bytes.now as_ensemble as_structure }
 {
-    if bytes.len() > 0 && bytes[0] == SYNC {
+    if bytes.starts_with(&[SYNC]) {
         as_structure.into()
     } else {
         as_ensemble
@@ -80,9 +77,8 @@ fn refusal_report(heap: Global, fault: SectionFault) -> Result<String, AllocErro
 // What the bytes are.
 fn report(heap: Global, bytes: &[u8]) -> Result<String, AllocError> {
     let mut ensemble = Ensemble::new();
-    let as_ensemble = match ensemble.open(bytes) {
-        Ok(()) => return ensemble_report(heap, &ensemble),
-        Err(fault) => fault,
+    let Err(as_ensemble) = ensemble.open(bytes) else {
+        return ensemble_report(heap, &ensemble);
     };
     match structure::open(bytes) {
         Ok(id) => {

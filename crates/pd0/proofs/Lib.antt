@@ -1,8 +1,4 @@
-pub mod Ensembles
 mod KindsApart
-mod Layers
 mod Places
-pub mod Sounds
-mod Tables
 mod Walks
-mod Wholes
+pub mod Wholes

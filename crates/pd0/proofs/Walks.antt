@@ -1,28 +1,25 @@
 -- The walk over the sections: what is known behind those that were right, and what a wrong one contradicts.
-use Rattle.std.proofs.Common.{◌≡◌, ℕ, ◌+◌, ◌-◌, ◌<◌, ◌≤◌, Bool, true, false, eqb, List, length, get_or, set, replicate, Decides, sym, refl, ap, ◌∙◌, subst, ⊎_elim, arith, below_more}
-use Rattle.std.proofs.lemmas.List.{get_or-replicate, get_or-set_same, get_or-set_other, length-set}
-use Rattle.std.proofs.lemmas.Bool.{eq-eqb, ne_eqb, cases_eq, cases_Bool, both_ways, false≢true}
-use Rattle.framing.specs.Stored.{word}
+use Rattle.std.proofs.Common.{◌≡◌, ℕ, ◌+◌, ◌-◌, ◌<◌, ◌≤◌, Bool, true, false, List, length, get_or, set, Decides, sym, ap, ◌∙◌, subst, ⊎_elim, arith, below_more}
+use Rattle.std.proofs.lemmas.List.{get_or-set_same, get_or-set_other, length-set}
+use Rattle.std.proofs.lemmas.Bool.{cases_eq, both_ways, false≢true}
+use Rattle.std.proofs.lemmas.Bool.Decides.{nat_tests}
 use Rattle.pd0.specs.declared.kind.Kind.{Kind}
-use Rattle.pd0.specs.declared.kind.Kind.TheVariants.{FixedLeader, Unnamed}
+use Rattle.pd0.specs.declared.kind.Kind.TheVariants.{Unnamed}
 use Rattle.pd0.specs.Kinds.{kind_of, kind_number, kinds, least_size, is_named}
-use Rattle.pd0.specs.Layout.{table_end, offset, ident, ending, cells_of}
-use Rattle.pd0.specs.Whole.{Headed, Led, Sectioned}
-use Rattle.pd0.proofs.Ensembles.{unnamed}
+use Rattle.pd0.specs.Layout.{offset, ident, ending, cells_of}
+use Rattle.pd0.specs.Whole.{Sectioned}
+use Rattle.pd0.specs.Opened.{unnamed}
 use Rattle.pd0.proofs.KindsApart.{same_ident, same_number, number_below}
 
 pub ending_next : (bs : List ℕ) (d n k : ℕ) → k + 1 < d → ending bs d n k ≡ offset bs (k + 1)
-ending_next bs d n k h = let e : eqb (k + 1) d ≡ false = ne_eqb (k + 1) d (λ (q : k + 1 ≡ d). omega arith) in rw e
+ending_next bs d n k h = grind (arith, nat_tests)
 
 pub ending_last : (bs : List ℕ) (d n k : ℕ) → k + 1 ≡ d → ending bs d n k ≡ n - 2
-ending_last bs d n k h = rw (eq-eqb (k + 1) d h)
+ending_last bs d n k h = grind (arith, nat_tests)
 
 -- a test that says no, where the fact does not hold
 pub refuted : {P : Type 0} → (P → ⊥) → Decides false P
 refuted wrong = ((λ e. absurd (false≢true e)), (λ p. absurd (wrong p)))
-
-pub confirmed : {P : Type 0} → P → Decides true P
-confirmed p = ((λ _. p), (λ _. refl))
 
 -- among kinds that were met is K
 abbrev met_at : List Bool → Kind → Bool
@@ -32,11 +29,10 @@ met_at met K = get_or met (kind_number K) false
 abbrev with_kind : List Bool → Kind → List Bool
 with_kind met K = set met (kind_number K) (is_named K)
 
--- Behind the first k of d sections in n counted bytes: the next begins at start, and just the named kinds among them were
--- met.
-pub record Walked (bs : List ℕ) (d n k start : ℕ) (met : List Bool) : Type 0 where
-  pub here : k < d → start ≡ offset bs k
-  pub inner : start + 2 ≤ n
+-- Behind the first k of d sections in n counted bytes: the next has room for an identification, and just the named kinds
+-- among them were met.
+pub record Walked (bs : List ℕ) (d n k : ℕ) (met : List Bool) : Type 0 where
+  pub inner : k < d → offset bs k + 2 ≤ n
   pub long : length met ≡ kinds
   pub room : (j : ℕ) → j < k → offset bs j + least_size (kind_of (ident bs j)) (cells_of bs) ≤ ending bs d n j
   pub inside : (j : ℕ) → j < k → ending bs d n j + 2 ≤ n
@@ -44,41 +40,12 @@ pub record Walked (bs : List ℕ) (d n k start : ℕ) (met : List Bool) : Type 0
   pub all : (j : ℕ) → j < k → is_named (kind_of (ident bs j)) ≡ true → met_at met (kind_of (ident bs j)) ≡ true
   pub only : (K : Kind) → met_at met K ≡ true → (j : ℕ) × (j < k) × (kind_of (ident bs j) ≡ K) × (is_named K ≡ true)
 
-none_met : (K : Kind) → met_at (replicate kinds false) K ≡ false
-none_met K = get_or-replicate kinds (kind_number K) false false (number_below K)
-
 module _ (bs : List ℕ) (d n : ℕ) where
-  walked_none : Headed bs d n → Led bs d n → Walked bs d n 0 (table_end d) (replicate kinds false)
-  walked_none h l =
-      record {
-        here = λ _. sym l.first;
-        inner = h.room;
-        long = refl;
-        room = λ j q. absurd (omega arith);
-        inside = λ j q. absurd (omega arith);
-        once = λ j q. absurd (omega arith);
-        all = λ j q. absurd (omega arith);
-        only = λ K e. absurd (both_ways _ (none_met K) e);
-      }
-
-  -- the kind by the identification that stands where the next section begins
-  pub kind_there :
-      (k start : ℕ) (met : List Bool) → Walked bs d n k start met → k < d → (id : ℕ) → id ≡ word bs start → (K : Kind) → K ≡ kind_of id
-      → K ≡ kind_of (ident bs k)
-  kind_there k start met w l id e K kind = kind ∙ ap kind_of (e ∙ ap (λ (i : ℕ). word bs i) (w.here l))
-
-  module _ (k start : ℕ) (met : List Bool) (w : Walked bs d n k start met) (K : Kind) (kind : K ≡ kind_of (ident bs k)) where
+  module _ (k : ℕ) (met : List Bool) (w : Walked bs d n k met) (K : Kind) (kind : K ≡ kind_of (ident bs k)) where
     -- a section of a kind that was not met
     module _ (unmet : met_at met K ≡ false) where
       new : (i : ℕ) → i < k → ident bs i ≡ ident bs k → kind_of (ident bs k) ≡ Unnamed
-      new i l e =
-          let same : kind_of (ident bs i) ≡ K = ap kind_of e ∙ sym kind in
-          sym kind
-          ∙ ⊎_elim
-          (λ (t : is_named K ≡ true).
-          absurd (both_ways _ unmet (subst (λ (L : Kind). met_at met L ≡ true) same (w.all i l (ap is_named same ∙ t)))))
-          (unnamed K)
-          (cases_Bool (is_named K))
+      new i l e = let a = w.all i l in grind (arith, unnamed)
 
       -- what a place for kinds holds, once K has its own
       other : (L : Kind) → (kind_number L ≡ kind_number K → ⊥) → met_at (with_kind met K) L ≡ met_at met L
@@ -91,37 +58,30 @@ module _ (bs : List ℕ) (d n : ℕ) where
       own_of L e = subst (λ (M : Kind). met_at (with_kind met K) M ≡ is_named M) (sym (same_number L K e)) own
 
       all_more : (j : ℕ) → j < k → is_named (kind_of (ident bs j)) ≡ true → met_at (with_kind met K) (kind_of (ident bs j)) ≡ true
-      all_more j l t =
-          ⊎_elim
-          (λ (e : kind_number (kind_of (ident bs j)) ≡ kind_number K). own_of (kind_of (ident bs j)) e ∙ t)
-          (λ (ne : kind_number (kind_of (ident bs j)) ≡ kind_number K → ⊥). other (kind_of (ident bs j)) ne ∙ w.all j l t)
-          (cases_eq (kind_number (kind_of (ident bs j))) (kind_number K))
+      all_more j l t = let a = w.all j l t in grind (arith, own_of, other)
 
       only_more :
           (L : Kind) → met_at (with_kind met K) L ≡ true
           → (j : ℕ) × (j < k + 1) × (kind_of (ident bs j) ≡ L) × (is_named L ≡ true)
       only_more L t =
           ⊎_elim
-          (λ (e : kind_number L ≡ kind_number K).
-          (k, omega arith, sym kind ∙ sym (same_number L K e), sym (own_of L e) ∙ t))
+          (λ (e : kind_number L ≡ kind_number K). (k, omega arith, cc (same_number L K e), cc (own_of L e)))
           (λ (ne : kind_number L ≡ kind_number K → ⊥).
           let f = w.only L (sym (other L ne) ∙ t) in (f.0, omega (arith, f.1), f.2, f.3))
           (cases_eq (kind_number L) (kind_number K))
 
       -- one section more
       pub walked_more :
-          (end : ℕ) → k < d → end ≡ ending bs d n k → end + 2 ≤ n → start + least_size K (cells_of bs) ≤ end
-          → Walked bs d n (k + 1) end (with_kind met K)
-      walked_more end l e i r =
-          let at = w.here l in
+          k < d → ending bs d n k + 2 ≤ n → offset bs k + least_size K (cells_of bs) ≤ ending bs d n k
+          → Walked bs d n (k + 1) (with_kind met K)
+      walked_more l i r =
           record {
-            here = λ q. e ∙ ending_next bs d n k q;
-            inner = i;
+            inner = λ q. let e = ending_next bs d n k q in omega arith;
             long = length-set met (kind_number K) (is_named K) ∙ w.long;
             room =
                 below_more _ k w.room
-                (subst (λ (M : Kind). offset bs k + least_size M (cells_of bs) ≤ ending bs d n k) kind (omega arith));
-            inside = below_more _ k w.inside (omega arith);
+                (subst (λ (M : Kind). offset bs k + least_size M (cells_of bs) ≤ ending bs d n k) kind r);
+            inside = below_more _ k w.inside i;
             once = below_more _ k w.once new;
             all = below_more _ k all_more (λ t. subst (λ (M : Kind). met_at (with_kind met K) M ≡ true) kind (own ∙ ap is_named kind ∙ t));
             only = only_more;
@@ -133,14 +93,3 @@ module _ (bs : List ℕ) (d n : ℕ) where
         let f = w.only K t in
         let u : kind_of (ident bs k) ≡ Unnamed = s.once f.0 k f.1 l (same_ident K _ _ f.2 (sym kind) f.3) in
         both_ways _ (ap is_named (kind ∙ u)) f.3
-
-  -- behind the Fixed Leader
-  pub walked_first : Headed bs d n → Led bs d n → Walked bs d n 1 (offset bs 1) (set (replicate kinds false) 0 true)
-  walked_first h l =
-      walked_more 0 (table_end d) (replicate kinds false) (walked_none h l) FixedLeader (sym l.leaders.0) refl (offset bs 1)
-      (omega (arith, h.some)) (sym (ending_next bs d n 0 (omega (arith, h.some)))) l.second.1 (omega (arith, l.first, l.second))
-
-  pub walked_all : (k start : ℕ) (met : List Bool) → Walked bs d n k start met → k ≡ d → Led bs d n → Sectioned bs d n
-  walked_all k start met w e l =
-      let w : Walked bs d n d start met = subst (λ (m : ℕ). Walked bs d n m start met) e w in
-      record { led = l; room = w.room; inside = w.inside; once = λ i j p q. w.once j q i p }

@@ -1,5 +1,5 @@
 -- The header of an ensemble is seen in its six bytes, and tells at most the longest size.
-use Rattle.std.specs.Prelude.{◌≡◌, ℕ, ◌+◌, ◌^◌, ◌<◌, ◌≤◌, true, false, List, ◌++◌, map, length, take, drop, Some, ◌==◌, nat_eq, nat_le}
+use Rattle.std.specs.Prelude.{◌≡◌, ℕ, ◌+◌, ◌<◌, ◌≤◌, true, false, List, ◌++◌, map, length, take, drop, Some, ◌==◌, nat_eq, nat_le}
 use Rattle.std.proofs.Common.{sym, ap, subst, ◌∙◌, arith}
 use Rattle.std.proofs.lemmas.Bool.{le-leb, ne_eqb}
 use Rattle.std.proofs.lemmas.Bool.Decides.{nat_tests}
@@ -9,11 +9,9 @@ use Rattle.faults.specs.declared.frame.FrameFault.TheVariants.{Length}
 use Rattle.faults.specs.declared.section.SectionFault.TheVariants.{InFrame}
 use Rattle.faults.specs.Least.{or_else}
 use Rattle.faults.specs.Questions.{ask, first_fault, all_yes, answered, DecidedBeyond}
-use Rattle.framing.proofs.Headers.{headed_lawful}
-use Rattle.framing.specs.Laws.{Lawful}
-use Rattle.pd0.specs.Layout.{header_size, size_of}
+use Rattle.pd0.specs.Layout.{size_of}
 use Rattle.pd0.specs.Questions.{head_questions, in_frame, questions, opened, longest_size}
-use Rattle.pd0.specs.Verdicts.{fit, whole_size, whole, judged_run}
+use Rattle.pd0.specs.Verdicts.{fit, whole_size}
 
 pub sized : (xs : List ℕ) → 6 ≤ length xs → fit xs ≡ true → (1 ≤ whole_size xs) × (whole_size xs ≤ longest_size)
 unfolding fit
@@ -39,12 +37,6 @@ seen xs more h = (
   ap (λ os. all_yes (first_fault os)) (head_seen xs more h),
   rw (get_or_append_left xs more 0 2 (omega arith), get_or_append_left xs more 0 3 (omega arith)),
 )
-
-pub range : (1 ≤ header_size) × (header_size ≤ longest_size) × (longest_size < 2 ^ 64)
-range = (omega arith, omega arith, omega arith)
-
-pub pd0_lawful : Lawful judged_run longest_size
-pd0_lawful = headed_lawful header_size fit whole_size whole longest_size range sized seen
 
 -- a run that is longer than any ensemble has a length that is not the told one
 too_long :

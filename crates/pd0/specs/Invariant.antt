@@ -1,8 +1,7 @@
 -- What the type of a place for an ensemble keeps, each for the bytes bs and the number d of sections. `Bare` is of a place
 -- that holds no section; the others say nothing of one. `Opens` holds all the rest in itself; the facts that readers of
 -- sections use stand apart as well, since a fact of the type is at hand without an argument.
-use Rattle.std.specs.Prelude.{◌≡◌, ℕ, ◌+◌, ◌<◌, ◌≤◌, true, List, length, slice_index_or}
-use Rattle.faults.specs.declared.place.Offset.{Offset}
+use Rattle.std.specs.Prelude.{◌≡◌, ℕ, ◌+◌, ◌<◌, ◌≤◌, true, List, length}
 use Rattle.faults.specs.Questions.{all_yes, first_fault}
 use Rattle.pd0.specs.Kinds.{kind_of, least_size, leader_size}
 use Rattle.pd0.specs.Layout.{table_end, offset, ident, section_size, cells_of, size_of}
@@ -19,13 +18,6 @@ Opens bs d = 0 < d → all_yes (first_fault (questions bs)) ≡ true
 -- the counted bytes and the checksum are all there is
 abbrev pub Whole : List ℕ → ℕ → Type 0
 Whole bs d = 0 < d → length bs ≡ size_of bs + 2
-
-abbrev pub at : List Offset → ℕ → ℕ
-at offs k = (slice_index_or offs k (record { 0 = 0 })).0
-
--- the first d places of a table hold the offsets
-abbrev pub Kept : List ℕ → ℕ → List Offset → Type 0
-Kept bs d offs = (k : ℕ) → k < d → at offs k ≡ offset bs k
 
 -- sections stand behind the table of offsets
 abbrev pub Behind : List ℕ → ℕ → Type 0

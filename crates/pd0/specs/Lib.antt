@@ -1,11 +1,14 @@
 pub mod Ensembles
+pub mod Headers
 pub mod Held
 pub mod Invariant
 pub mod Kinds
 pub mod Layout
+pub mod Opened
 pub mod Questions
 pub mod Sections
+pub mod Sounds
 pub mod Table
+pub mod Tables
 pub mod Verdicts
 pub mod Whole
-pub mod Headers

@@ -1,12 +1,15 @@
 -- What an ensemble's bytes keep beside their checksum, for d sections in n counted bytes.
-use Rattle.std.specs.Prelude.{◌≡◌, ℕ, ◌+◌, ◌<◌, ◌≤◌, List, length}
+use Rattle.std.specs.Prelude.{◌≡◌, ℕ, ◌+◌, ◌<◌, ◌≤◌, List, length, slice_index}
 use Rattle.pd0.specs.declared.kind.Kind.TheVariants.{FixedLeader, VariableLeader, Unnamed}
 use Rattle.pd0.specs.Kinds.{kind_of, least_size, leader_size}
-use Rattle.pd0.specs.Layout.{table_end, offset, ident, ending, cells_of}
+use Rattle.pd0.specs.Layout.{mark, table_end, size_of, count_of, offset, ident, ending, cells_of}
 use Rattle.pd0.specs.Questions.{most_counted, most_sections, most_cells}
 
--- both numbers are in range, and the counted bytes and the checksum are all there is
+-- a right header tells both numbers, and the counted bytes and the checksum are all there is
 pub record Headed (bs : List ℕ) (d n : ℕ) : Type 0 where
+  pub marked : (slice_index bs 0 ≡ mark) × (slice_index bs 1 ≡ mark)
+  pub count : d ≡ count_of bs
+  pub size : n ≡ size_of bs
   pub some : 2 ≤ d
   pub few : d ≤ most_sections
   pub room : table_end d + 2 ≤ n

@@ -1,68 +1,67 @@
 ghost use Rattle.std.specs.Prelude.{◌≡◌, IfOk};
+ghost use Rattle.std.specs.Result.{result_err};
 ghost use Rattle.faults.specs.Questions.{answered, first_fault};
 ghost use Rattle.pd0.specs.Ensembles.{OpeningLaws};
 ghost use Rattle.pd0.specs.Questions.{header_of, to_table, frame_questions, questions};
-ghost use Rattle.pd0.specs.Table.{Tabled};
 
-use crate::header::{Header, entry, read_header, wrong_offset};
+use crate::frame::Frame;
+use crate::header::{Header, entry, read_header};
 use crate::kind::LEADER_SIZE;
-use crate::sections::{CELLS, MOST_CELLS, section_size, start, wrong_order, wrong_size};
-use crate::stored::{byte, checksum, word};
+use crate::sections::{CELLS, MOST_CELLS};
+use crate::table::Table;
 use crate::whole::is_whole;
 use faults::frame::FrameFault;
 use faults::place::Offset;
 use faults::section::SectionFault;
 
 // Asks up to the table of offsets.
-fn check_table(bytes: &[u8]) -> Result<Header, FrameFault>
-    ensures value { result ≡ answered (first_fault (to_table bytes.now)) (header_of bytes.now) }
-    ensures tabled { IfOk result (λ h. Tabled bytes.now h.count h.size) }
+#[tactic(auto, using(crate::specs::Tables::tabled_from))]
+fn check_table(bytes: &[u8]) -> Result<Table, FrameFault>
+    ensures value { result_err result ≡ first_fault (to_table bytes.now) }
+    ensures same { IfOk result (λ t. t.frame.bytes.now ≡ bytes.now) }
 {
     let header = read_header(bytes)?;
-    let n = header.size;
-    if bytes.len() != n + 2 {
-        return Err(FrameFault::Length);
+    let frame = Frame::new(bytes, header).ok_or(FrameFault::Length)?;
+    if !frame.is_sealed() {
+        return Err(FrameFault::Checksum(Offset(frame.size as u16).into()));
     }
-    let sum = Offset(n as u16);
-    if checksum(&bytes[0..n]) != word(bytes, sum) {
-        return Err(FrameFault::Checksum(sum.into()));
+    match frame.wrong_offset() {
+        Some(k) => Err(FrameFault::OffsetTable(entry(k).into())),
+        None => Ok(Table { frame }),
     }
-    if let Some(k) = wrong_offset(bytes, header) {
-        return Err(FrameFault::OffsetTable(entry(k).into()));
-    }
-    Ok(header)
 }
 
 // Asks every question of the frame.
-fn check_frame(bytes: &[u8]) -> Result<Header, FrameFault>
-    ensures value { result ≡ answered (first_fault (frame_questions bytes.now)) (header_of bytes.now) }
-    ensures tabled { IfOk result (λ h. Tabled bytes.now h.count h.size) }
+fn check_frame(bytes: &[u8]) -> Result<Table, FrameFault>
+    ensures value { result_err result ≡ first_fault (frame_questions bytes.now) }
+    ensures same { IfOk result (λ t. t.frame.bytes.now ≡ bytes.now) }
 {
-    let header = check_table(bytes)?;
-    if let Some(k) = wrong_order(bytes, header) {
-        return Err(FrameFault::SectionOrder(start(bytes, header, k).into()));
+    let table = check_table(bytes)?;
+    match table.wrong_order() {
+        Some(k) => Err(FrameFault::SectionOrder(table.start(k).into())),
+        None => Ok(table),
     }
-    Ok(header)
 }
 
 // Asks every question of an ensemble, in their order.
+#[tactic(auto, unfolding(crate::specs::Questions::questions))]
 fn ask_in_order(bytes: &[u8]) -> Result<Header, SectionFault>
-    ensures value { result ≡ answered (first_fault (questions bytes.now)) (header_of bytes.now) }
-    ensures laws { OpeningLaws bytes.now }
+    ensures { result ≡ answered (first_fault (questions bytes.now)) (header_of bytes.now) }
 {
-    let header = check_frame(bytes)?;
-    let leader = start(bytes, header, 0);
-    if section_size(bytes, header, 0) < LEADER_SIZE {
+    let table = check_frame(bytes)?;
+    let leader = table.start(0);
+    if table.section_size(0) < LEADER_SIZE {
         return Err(SectionFault::Leader(leader.into()));
     }
-    let cells = byte(bytes, leader.0 as usize + CELLS.0 as usize);
-    if cells < 1 || cells > MOST_CELLS {
+    let cells = bytes[usize::from(leader) + usize::from(CELLS)];
+    if !(1..=MOST_CELLS).contains(&cells) {
         return Err(SectionFault::Leader(leader.into()));
     }
-    if let Some(k) = wrong_size(bytes, header, cells) {
-        return Err(SectionFault::TooShort(start(bytes, header, k).into()));
+    if let Some(k) = table.wrong_size(cells) {
+        return Err(SectionFault::TooShort(table.start(k).into()));
     }
-    Ok(header)
+    let Frame { count, size, .. } = table.frame;
+    Ok(Header { count, size })
 }
 
 // Asks every question of an ensemble. Most bytes that are opened are one, which

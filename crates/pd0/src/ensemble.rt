@@ -1,10 +1,7 @@
 ghost use Rattle.std.specs.Prelude.{◌≡◌, ◌≤◌};
 ghost use Rattle.pd0.specs.Layout.{count_of};
-ghost use Rattle.pd0.specs.Invariant.{Bare, Opens, Whole, Kept, Behind, Apart, Inside, Celled, Filled};
+ghost use Rattle.pd0.specs.Invariant.{Bare, Opens, Whole, Behind, Apart, Inside, Celled, Filled};
 ghost use Rattle.pd0.specs.Questions.{most_sections};
-
-use crate::header::MOST_SECTIONS;
-use faults::place::Offset;
 
 pub mod parts;
 pub mod place;
@@ -16,13 +13,11 @@ pub mod place;
 pub struct Ensemble<'a> {
     bytes: &'a [u8],
     count: usize,
-    offsets: [Offset; MOST_SECTIONS],
     ghost few: { count ≤ most_sections },
     ghost counted: { count ≡ count_of bytes.now },
     ghost bare: { Bare bytes.now count },
     ghost opens: { Opens bytes.now count },
     ghost whole: { Whole bytes.now count },
-    ghost kept: { Kept bytes.now count offsets },
     ghost behind: { Behind bytes.now count },
     ghost apart: { Apart bytes.now count },
     ghost inside: { Inside bytes.now count },

@@ -1,74 +1,52 @@
-ghost use Rattle.std.specs.Prelude.{◌≡◌};
-ghost use Rattle.framing.specs.Headed.{head_wants, SoundExactly};
+ghost use Rattle.std.specs.Prelude.{refl};
 ghost use Rattle.pd0.specs.Ensembles.{IsEnsemble};
 ghost use Rattle.pd0.specs.Layout.{header_size};
 ghost use Rattle.pd0.specs.Questions.{longest_size};
+ghost use Rattle.pd0.specs.Sounds.{ensemble_laws};
 ghost use Rattle.pd0.specs.Verdicts.{fit, whole_size, whole, judged_run};
-ghost use Rattle.pd0.specs.Headers.{pd0_lawful};
 
 use crate::header::{HEADER_SIZE, MOST_COUNTED, read_header};
 use crate::whole::is_whole;
-use framing::framing::Framing;
-use framing::verdict::Verdict;
+use framing::headed::Headed;
 
 // The bytes of the longest ensemble, its checksum among them.
 pub const LONGEST: usize = MOST_COUNTED + 2;
-
-// The size in bytes that a right header tells, the checksum included, or the
-// verdict that no more than the header is needed for.
-fn size_wanted(run: &[u8]) -> Result<usize, Verdict>
-    ensures value { result ≡ head_wants header_size fit whole_size run.now }
-    ensures exactly { SoundExactly judged_run IsEnsemble run.now }
-{
-    if run.len() < HEADER_SIZE {
-        return Err(Verdict::Short(HEADER_SIZE));
-    }
-    match read_header(run) {
-        Ok(header) => Ok(header.size + 2),
-        Err(_) => Err(Verdict::Unfit),
-    }
-}
-
-// Whether the bytes are an ensemble, no more and no fewer.
-fn is_ensemble(bytes: &[u8]) -> bool
-    ensures { result ≡ whole bytes.now }
-{
-    match read_header(bytes) {
-        Ok(header) => is_whole(bytes, header),
-        Err(_) => false,
-    }
-}
 
 // PD0 ensembles as a framing.
 #[derive(Clone, Copy)]
 pub struct Pd0;
 
-impl Framing for Pd0 {
-    ghost judged = { λ _. judged_run };
+impl Headed for Pd0 {
+    ghost HEADER_SIZE = { header_size };
 
-    ghost reach = { λ _. longest_size };
+    ghost LONGEST = { longest_size };
 
-    ghost lawful = { λ _. pd0_lawful };
+    const HEADER_SIZE: usize = HEADER_SIZE;
 
-    fn judge(&self, run: &[u8]) -> Verdict
-        ensures verdict { result ≡ judged_run run.now }
-        ensures exactly { SoundExactly judged_run IsEnsemble run.now }
-    {
-        let size = match size_wanted(run) {
-            Ok(size) => size,
-            Err(verdict) => return verdict,
-        };
-        if run.len() < size {
-            return Verdict::Short(size);
-        }
-        if is_ensemble(&run[0..size]) {
-            Verdict::Sound(size)
-        } else {
-            Verdict::Unfit
-        }
+    const LONGEST: usize = LONGEST;
+
+    ghost fit = { fit };
+
+    ghost size = { whole_size };
+
+    ghost whole = { whole };
+
+    ghost IsFrame = { IsEnsemble };
+
+    ghost judged = { judged_run };
+
+    ghost laws = { ensemble_laws };
+
+    ghost by_header = { refl };
+
+    #[tactic(auto, unfolding(crate::specs::Verdicts::fit))]
+    fn told_size(run: &[u8]) -> Option<usize> {
+        let header = read_header(run).ok()?;
+        Some(header.size + 2)
     }
 
-    fn longest(&self) -> usize {
-        LONGEST
+    #[tactic(auto, using(crate::proofs::Wholes::no_ensemble))]
+    fn is_frame(bytes: &[u8]) -> bool {
+        read_header(bytes).is_ok_and(|header| is_whole(bytes, header))
     }
 }

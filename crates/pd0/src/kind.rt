@@ -29,11 +29,11 @@ pub enum Kind {
     Unnamed,
 }
 
-impl Kind {
+impl From<u16> for Kind {
+    ghost from_gives = { λ identification kind. kind ≡ kind_of identification };
+
     // The kind with this identification, read as a number, low byte first.
-    pub(crate) fn of(identification: u16) -> Kind
-        ensures { result ≡ kind_of identification }
-    {
+    fn from(identification: u16) -> Kind {
         match identification {
             FIXED_LEADER => Kind::FixedLeader,
             VARIABLE_LEADER => Kind::VariableLeader,
@@ -46,7 +46,9 @@ impl Kind {
             _ => Kind::Unnamed,
         }
     }
+}
 
+impl Kind {
     // The fewest bytes of a section of this kind, with this many cells.
     pub(crate) fn least_size(self, cells: u8) -> usize
         ensures { result ≡ least_size self cells }
@@ -72,17 +74,7 @@ impl Kind {
     pub(crate) fn number(self) -> usize
         ensures { result ≡ kind_number self }
     {
-        match self {
-            Kind::FixedLeader => 0,
-            Kind::VariableLeader => 1,
-            Kind::Velocity => 2,
-            Kind::Correlation => 3,
-            Kind::Echo => 4,
-            Kind::PercentGood => 5,
-            Kind::Status => 6,
-            Kind::BottomTrack => 7,
-            Kind::Unnamed => 8,
-        }
+        self as usize
     }
 
     // The kind's name in the tables of the format.

@@ -4,10 +4,12 @@
 
 mod check;
 pub mod ensemble;
+mod frame;
 mod header;
 pub mod judging;
 pub mod kind;
 pub mod section;
 mod sections;
 pub mod stored;
+mod table;
 mod whole;

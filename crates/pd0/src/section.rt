@@ -4,7 +4,8 @@ ghost use Rattle.pd0.specs.Sections.{section_kind, section_bytes};
 use crate::kind::Kind;
 
 // A section of an ensemble by its kind, with its own bytes, the identification
-// among them.
+// among them. Each kind is a case that holds its part, by the project's rule, and
+// no pair of a kind and bytes.
 #[derive(Clone, Copy)]
 pub enum Section<'a> {
     FixedLeader(&'a [u8]),

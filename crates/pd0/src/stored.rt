@@ -8,15 +8,16 @@ use framing::checksum::checksum_from;
 pub(crate) fn byte(bytes: &[u8], at: usize) -> u8
     ensures { result ≡ slice_index bytes.now at }
 {
-    if at < bytes.len() { bytes[at] } else { 0 }
+    bytes.get(at).copied().unwrap_or(0)
 }
 
 // The 16-bit number at an offset, low byte first; a byte past the end counts
-// as 0.
+// as 0. It stays beside `word_inside` by the project's rule: a new place for an
+// ensemble, which has no byte, answers 0.
 pub(crate) fn word(bytes: &[u8], at: Offset) -> u16
     ensures { result ≡ word bytes.now at.0 }
 {
-    let at = at.0 as usize;
+    let at = usize::from(at);
     u16::from_le_bytes([byte(bytes, at), byte(bytes, at + 1)])
 }
 
@@ -29,7 +30,8 @@ pub(crate) fn word_inside(bytes: &[u8], at: usize) -> u16
     u16::from_le_bytes([bytes[at], bytes[at + 1]])
 }
 
-// The checksum of an ensemble's counted bytes.
+// The checksum of an ensemble's counted bytes. It stays beside the other maker's,
+// one line over the sum of both, so that no caller has to know the start.
 pub fn checksum(bytes: &[u8]) -> u16
     ensures { result ≡ checksum_from 0 bytes.now }
 {

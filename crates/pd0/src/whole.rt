@@ -1,107 +1,99 @@
 // Whether bytes are an ensemble, with no word of what is wrong with others: the
 // questions are asked in the order that costs least, and the sections are gone
 // through once.
-ghost use Rattle.std.specs.Prelude.{◌≡◌, ◌<◌, Ok, Decides, MatchOption};
+ghost use Rattle.std.specs.Prelude.{◌≡◌, Ok, Decides, MatchOption};
 ghost use Rattle.faults.specs.Questions.{answered, first_fault};
-ghost use Rattle.pd0.specs.Layout.{ending, cells_of};
+ghost use Rattle.pd0.specs.Layout.{cells_of};
 ghost use Rattle.pd0.specs.Questions.{head_questions, header_of};
 ghost use Rattle.pd0.specs.Verdicts.{whole};
-ghost use Rattle.pd0.specs.Whole.{Headed, Led, Sectioned};
+ghost use Rattle.pd0.specs.Whole.{Led, Sectioned};
 
-use crate::header::{HEADER_SIZE, Header, offset_inside};
+use crate::frame::Frame;
+use crate::header::{HEADER_SIZE, Header};
 use crate::kind::{FIXED_LEADER, KINDS, Kind, LEADER_SIZE, VARIABLE_LEADER};
 use crate::sections::{CELLS, MOST_CELLS};
-use crate::stored::{checksum, word_inside};
+use crate::stored::word_inside;
 
-// The number of cells, if the leaders come first and it is in range.
-fn leading_cells(bytes: &[u8], header: Header) -> Option<u8>
-    requires { Headed bytes.now header.count header.size }
-    ensures { MatchOption result (Sectioned bytes.now header.count header.size → ⊥) (λ c. (c ≡ cells_of bytes.now) × Led bytes.now header.count header.size) }
-{
-    let first = HEADER_SIZE + 2 * header.count;
-    if offset_inside(bytes, 0).0 as usize != first {
-        return None;
-    }
-    let second = offset_inside(bytes, 1).0 as usize;
-    if second < first + LEADER_SIZE || second + 2 > header.size {
-        return None;
-    }
-    let cells = bytes[first + CELLS.0 as usize];
-    if cells < 1 || cells > MOST_CELLS {
-        return None;
-    }
-    let id = word_inside(bytes, first);
-    let next = word_inside(bytes, second);
-    if id != FIXED_LEADER || next != VARIABLE_LEADER {
-        return None;
-    }
-    Some(cells)
-}
-
-// Where section `k` ends: where the next one begins, or the reserved bytes.
-fn end_of(bytes: &[u8], header: Header, k: usize) -> usize
-    requires { (Headed bytes.now header.count header.size) × (k < header.count) }
-    ensures { result ≡ ending bytes.now header.count header.size k }
-{
-    if k + 1 == header.count {
-        header.size - 2
-    } else {
-        offset_inside(bytes, k + 1).0 as usize
-    }
-}
-
-// Whether each section behind the Fixed Leader has its least size before the
-// next one begins, the last one before the reserved bytes, and no named kind
-// stands twice.
-fn has_room(bytes: &[u8], header: Header, cells: u8) -> bool
-    requires headed { Headed bytes.now header.count header.size }
-    requires led { (Led bytes.now header.count header.size) × (cells ≡ cells_of bytes.now) }
-    ensures { Decides result (Sectioned bytes.now header.count header.size) }
-{
-    let last = header.size - 2;
-    // the named kinds that were met, at first that of the Fixed Leader
-    let mut met = [false; KINDS];
-    met[Kind::FixedLeader.number()] = true;
-    let mut start = offset_inside(bytes, 1).0 as usize;
-    for k in 1..header.count {
-        let kind = Kind::of(word_inside(bytes, start));
-        let end = end_of(bytes, header, k);
-        if end > last || end < start + kind.least_size(cells) {
-            return false;
+impl Frame<'_> {
+    // The number of cells, if the leaders come first and it is in range.
+    fn leading_cells(&self) -> Option<u8>
+        ensures { MatchOption result (Sectioned self.now.bytes.now self.now.count self.now.size → ⊥) (λ c. (c ≡ cells_of self.now.bytes.now) × Led self.now.bytes.now self.now.count self.now.size) }
+    {
+        let first = HEADER_SIZE + 2 * self.count;
+        if usize::from(self.offset(0)) != first {
+            return None;
         }
-        let number = kind.number();
-        if met[number] {
-            return false;
+        let second = usize::from(self.offset(1));
+        if second < first + LEADER_SIZE || second + 2 > self.size {
+            return None;
         }
-        met[number] = kind.is_named();
-        start = end;
+        let cells = self.bytes[first + usize::from(CELLS)];
+        if !(1..=MOST_CELLS).contains(&cells) {
+            return None;
+        }
+        let id = word_inside(self.bytes, first);
+        let next = word_inside(self.bytes, second);
+        if id != FIXED_LEADER || next != VARIABLE_LEADER {
+            return None;
+        }
+        Some(cells)
     }
-    true
+
+    // Whether each section behind the Fixed Leader has its least size before the
+    // next one begins, the last one before the reserved bytes, and no named kind
+    // stands twice.
+    fn has_room(&self, cells: u8) -> bool
+        requires { Led self.now.bytes.now self.now.count self.now.size × (cells ≡ cells_of self.now.bytes.now) }
+        ensures { Decides result (Sectioned self.now.bytes.now self.now.count self.now.size) }
+    {
+        let last = self.size - 2;
+        // the named kinds that were met, at first that of the Fixed Leader; a loop,
+        // since a chain would have to hand all of them on from section to section,
+        // and an array, since a set would need a heap
+        let mut met = [false; KINDS];
+        met[Kind::FixedLeader.number()] = true;
+        for k in 1..self.count {
+            let start = usize::from(self.offset(k));
+            let kind = Kind::from(word_inside(self.bytes, start));
+            let end = self.end(k);
+            if end > last || end < start + kind.least_size(cells) {
+                return false;
+            }
+            let number = kind.number();
+            if met[number] {
+                return false;
+            }
+            met[number] = kind.is_named();
+        }
+        true
+    }
+
+    // Whether the sections are as an ensemble has them.
+    fn has_sections(&self) -> bool
+        ensures { Decides result (Sectioned self.now.bytes.now self.now.count self.now.size) }
+    {
+        // a match: is_some_and was tried, but what has_room ensures is no equation,
+        // and of a closure around it nothing else is known
+        match self.leading_cells() {
+            Some(cells) => self.has_room(cells),
+            None => false,
+        }
+    }
+
+    // Whether the bytes are an ensemble. The checksum comes last, since it reads
+    // every byte.
+    fn is_ensemble(&self) -> bool
+        ensures { result ≡ whole self.now.bytes.now }
+    {
+        self.has_sections() && self.is_sealed()
+    }
 }
 
-// Whether the sections are as an ensemble has them.
-fn has_sections(bytes: &[u8], header: Header) -> bool
-    requires { Headed bytes.now header.count header.size }
-    ensures { Decides result (Sectioned bytes.now header.count header.size) }
-{
-    match leading_cells(bytes, header) {
-        Some(cells) => has_room(bytes, header, cells),
-        None => false,
-    }
-}
-
-// Whether bytes with this header are an ensemble, no more and no fewer. The
-// checksum comes last, since it reads every byte.
+// Whether bytes with this header are an ensemble, no more and no fewer.
+#[tactic(auto, using(crate::proofs::Wholes::wrong_length))]
 pub(crate) fn is_whole(bytes: &[u8], header: Header) -> bool
     requires { Ok header ≡ answered (first_fault (head_questions bytes.now)) (header_of bytes.now) }
     ensures { result ≡ whole bytes.now }
 {
-    let n = header.size;
-    if bytes.len() != n + 2 {
-        return false;
-    }
-    if !has_sections(bytes, header) {
-        return false;
-    }
-    checksum(&bytes[0..n]) == word_inside(bytes, n)
+    Frame::new(bytes, header).is_some_and(|frame| frame.is_ensemble())
 }

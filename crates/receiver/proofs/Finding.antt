@@ -6,13 +6,8 @@ use Rattle.receiver.specs.declared.answer.Answer.{Answer}
 use Rattle.receiver.specs.declared.receiver.find.Turn.{Turn}
 use Rattle.receiver.specs.declared.receiver.find.Turn.TheVariants.{Keep, Wait, Over, Drop}
 use Rattle.receiver.specs.State.{State, capacity}
-use Rattle.receiver.specs.Rule.{Search, seek, seek_from, consulted, turn_by, follow, stop, behind, comes, find_outcome, finds, Follows}
-use Rattle.receiver.proofs.Tails.{never}
-use Rattle.receiver.proofs.Searched.{turn_held}
-
--- the turn at this state
-abbrev pub turn_of : (List ℕ → Verdict) → State → Turn
-turn_of J s = turn_by s.found s.ended (consulted J s.found s.held)
+use Rattle.receiver.specs.Rule.{Search, seek, seek_from, consulted, turn_by, turn_of, follow, stop, behind, comes, find_outcome, finds, Follows}
+use Rattle.receiver.proofs.Stopping.{turn_held}
 
 -- what a find comes to from this state
 abbrev pub find_at : (List ℕ → Verdict) → State → Search
@@ -31,60 +26,54 @@ by_turn J s w e = step J s.found s.ended s.held ∙ ap (λ v. follow v s.held (s
 -- no frame is found where the turn is another than to keep one
 none_waits : (o : Option ℕ) (ended : Bool) (v : Option Verdict) (m : ℕ) → turn_by o ended v ≡ Wait m → o ≡ None
 none_waits None ended v m e = refl
-none_waits (Some n) ended v m e = never (cc)
+none_waits (Some n) ended v m e = cc
 
 none_over : (o : Option ℕ) (ended : Bool) (v : Option Verdict) → turn_by o ended v ≡ Over → o ≡ None
 none_over None ended v e = refl
-none_over (Some n) ended v e = never (cc)
+none_over (Some n) ended v e = cc
 
 -- a frame that is kept was found before, or is sound
 pub kept_sound : (J : List ℕ → Verdict) (o : Option ℕ) (ended : Bool) (xs : List ℕ) (n : ℕ) → turn_by o ended (consulted J o xs) ≡ Keep n → (o ≡ Some n) ⊎ (J xs ≡ Sound n)
 kept_sound J (Some k) ended xs n e = inl (cc)
-kept_sound J None true [] n e = never (cc)
-kept_sound J None false [] n e = never (cc)
+kept_sound J None true [] n e = cc
+kept_sound J None false [] n e = cc
 kept_sound J None ended (b ∷ bs) n e = by ended (J (b ∷ bs)) refl (sym (turn_held J ended (b ∷ bs) (omega arith)) ∙ e)
   where
     by : (ended : Bool) (v : Verdict) → J (b ∷ bs) ≡ v → turn_by None ended (Some v) ≡ Keep n → (◌≡◌ {A = Option ℕ} None (Some n)) ⊎ (J (b ∷ bs) ≡ Sound n)
     by true (Sound k) q f = inr (cc)
     by false (Sound k) q f = inr (cc)
-    by true Unfit q f = never (cc)
-    by false Unfit q f = never (cc)
-    by true (Short m) q f = never (cc)
+    by true Unfit q f = cc
+    by false Unfit q f = cc
+    by true (Short m) q f = cc
     by false (Short m) q f = short (leb m capacity) f
       where
         short : (t : Bool) → cond t (Wait m) (Drop 1) ≡ Keep n → (◌≡◌ {A = Option ℕ} None (Some n)) ⊎ (J (b ∷ bs) ≡ Sound n)
-        short true g = never (cc)
-        short false g = never (cc)
+        short true g = cc
+        short false g = cc
 
 -- what is dropped is one byte, which is held, and no frame is found
 pub dropped_one : (J : List ℕ → Verdict) (o : Option ℕ) (ended : Bool) (xs : List ℕ) (k : ℕ) → turn_by o ended (consulted J o xs) ≡ Drop k → (o ≡ None) × (k ≡ 1) × (0 < length xs)
-dropped_one J (Some n) ended xs k e = never (cc)
-dropped_one J None true [] k e = never (cc)
-dropped_one J None false [] k e = never (cc)
+dropped_one J (Some n) ended xs k e = cc
+dropped_one J None true [] k e = cc
+dropped_one J None false [] k e = cc
 dropped_one J None ended (b ∷ bs) k e = (refl, by ended (J (b ∷ bs)) (sym (turn_held J ended (b ∷ bs) (omega arith)) ∙ e), omega arith)
   where
     by : (ended : Bool) (v : Verdict) → turn_by None ended (Some v) ≡ Drop k → k ≡ 1
-    by true (Sound n) f = never (cc)
-    by false (Sound n) f = never (cc)
+    by true (Sound n) f = cc
+    by false (Sound n) f = cc
     by true Unfit f = cc
     by false Unfit f = cc
     by true (Short m) f = cc
     by false (Short m) f = short (leb m capacity) f
       where
         short : (t : Bool) → cond t (Wait m) (Drop 1) ≡ Drop k → k ≡ 1
-        short true g = never (cc)
+        short true g = cc
         short false g = cc
 
 -- after d drops a find that began at the first state has come to the second
 pub record Ahead (J : List ℕ → Verdict) (s : State) (d : ℕ) (t : State) : Type 0 where
   pub rest : find_at J s ≡ behind d (find_at J t)
   pub ended : t.ended ≡ s.ended
-
-pub ahead_start : (J : List ℕ → Verdict) (s : State) (d : ℕ) → d ≡ 0 → Ahead J s d s
-ahead_start J s d e = record { rest = (λ i. record { answer = (find_at J s).answer; dropped = none i; held = (find_at J s).held; found = (find_at J s).found }); ended = refl }
-  where
-    none : (find_at J s).dropped ≡ d + (find_at J s).dropped
-    none = omega arith
 
 module _ (J : List ℕ → Verdict) (s t : State) (d : ℕ) (a : Ahead J s d t) where
   stops : (u : State) (r : Answer) → find_at J t ≡ stop r u.held u.found → u.ended ≡ t.ended → Follows J s (finds (record { answer = r; dropped = d })) u

@@ -10,7 +10,7 @@ use Rattle.receiver.specs.State.{State, fresh, capacity}
 use Rattle.receiver.specs.Rule.{Search, seek_from, feeds, finds, shows, passes, ends, taking, feed_outcome, pass_outcome}
 use Rattle.receiver.specs.Record.{Record, Span, span_at, replay, calls_of, Answered, taken, taken_by, passed, dropped, place, frames}
 use Rattle.receiver.specs.Promise.{SoundAt, Among, Holds, NoByteInTwo}
-use Rattle.receiver.proofs.Tails.{never, Clear, run_drop, run_front, sound_more, unfit_more}
+use Rattle.receiver.proofs.Tails.{Clear, run_drop, run_front, sound_more, unfit_more}
 use Rattle.receiver.proofs.Searched.{Searched, find_searched}
 use Rattle.receiver.proofs.Spans.{apart_none, apart_more}
 
@@ -39,7 +39,7 @@ keeps_fresh J = record {
   sound = λ a n p. absurd p;
   before = λ f p. absurd p;
   apart = apart_none;
-  found = λ n e. never (cc);
+  found = λ n e. cc;
 }
 
 -- the same under other names
@@ -113,7 +113,7 @@ module _ {J : List ℕ → Verdict} {L : ℕ} (law : Lawful J L) (small : L ≤ 
     sound = sound;
     before = before;
     apart = apart_more at n fs k.before k.apart;
-    found = λ i q. never (cc);
+    found = λ i q. cc;
   }
     where
       long : length xs ≡ at + length s.held
@@ -158,9 +158,9 @@ module _ {J : List ℕ → Verdict} {L : ℕ} (law : Lawful J L) (small : L ≤ 
 
   kept_fed : (es : Record) (p s : State) (bs : List ℕ) (x : Result ℕ LineFault) (b : Bool) → p.ended ≡ b → (feed_outcome b p bs).event ≡ feeds bs x → (feed_outcome b p bs).state ≡ s
       → Run (taken (feeds bs x ∷ es)) → Kept es p → Kept (feeds bs x ∷ es) s
-  kept_fed es p s bs (Ok n) true c e f r k = never (cc)
+  kept_fed es p s bs (Ok n) true c e f r k = cc
   kept_fed es p s bs (Err x) true c e f r k = kept_quiet es p s f k
-  kept_fed es p s bs (Err x) false c e f r k = never (cc)
+  kept_fed es p s bs (Err x) false c e f r k = cc
   kept_fed es p s bs (Ok n) false c e f r k =
       renamed refl (omega arith) (ap (λ m. record { held = p.held ++ take m bs; found = p.found; ended = p.ended }) same ∙ f)
       (keeps_fed (taken es) (take n bs) (place es) (frames es) p r c few k)
@@ -173,9 +173,9 @@ module _ {J : List ℕ → Verdict} {L : ℕ} (law : Lawful J L) (small : L ≤ 
 
   kept_passed : (es : Record) (p s : State) (x : Result ℕ LineFault) (o : Option ℕ) → p.found ≡ o → (pass_outcome o p).event ≡ passes x → (pass_outcome o p).state ≡ s
       → Run (taken es) → Kept es p → Kept (passes x ∷ es) s
-  kept_passed es p s (Ok n) None c e f r k = never (cc)
+  kept_passed es p s (Ok n) None c e f r k = cc
   kept_passed es p s (Err x) None c e f r k = kept_quiet es p s f k
-  kept_passed es p s (Err x) (Some m) c e f r k = never (cc)
+  kept_passed es p s (Err x) (Some m) c e f r k = cc
   kept_passed es p s (Ok n) (Some m) c e f r k =
       renamed (sym (append-nil (taken es))) (omega arith) (ap (λ i. record { held = drop i p.held; found = None; ended = p.ended }) same ∙ f)
       (keeps_passed (taken es) (place es) n (frames es) p r (c ∙ ap Some (sym same)) k)

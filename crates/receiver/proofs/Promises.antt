@@ -1,18 +1,20 @@
 -- The promise, from what every record keeps.
-use Rattle.std.proofs.Common.{◌≡◌, ℕ, ◌+◌, ◌<◌, ◌≤◌, ◌⊎◌, List, [], ◌∷◌, ◌++◌, length, get_or, take, drop, Ok, Err, Result, sym, refl, ap, ◌∙◌, subst, inl, inr, ⊎_elim, arith}
+use Rattle.std.proofs.Common.{◌≡◌, ℕ, ◌+◌, ◌<◌, ◌≤◌, Bool, ◌⊎◌, List, [], ◌∷◌, ◌++◌, length, get_or, take, drop, sym, refl, ap, ◌∙◌, subst, inl, inr, ⊎_elim, arith}
 use Rattle.std.proofs.lemmas.List.{length-drop, length-take-le, take-append-drop, get_or-drop, get_or-take, ext_get_or}
 use Rattle.std.proofs.lemmas.Bool.{cases_lt}
-use Rattle.faults.specs.declared.line.LineFault.{LineFault}
 use Rattle.framing.specs.Laws.{Lawful, Run, Bytes}
 use Rattle.framing.specs.declared.verdict.Verdict.{Verdict}
 use Rattle.framing.specs.declared.verdict.Verdict.TheVariants.{Sound, Short, Unfit}
+use Rattle.receiver.specs.declared.answer.Answer.{Answer}
 use Rattle.receiver.specs.declared.answer.Finding.{Finding}
 use Rattle.receiver.specs.State.{State, capacity}
-use Rattle.receiver.specs.Rule.{Outcome, Event, feeds, finds, shows, passes, ends, call_of, rule, Follows, FollowsAny}
+use Rattle.receiver.specs.Rule.{Search, Outcome, Event, feeds, finds, shows, passes, ends, call_of, rule, Follows, FollowsAny}
 use Rattle.receiver.specs.Record.{Record, replay, calls_of, Answered, taken, taken_by, place, frames, Led}
-use Rattle.receiver.specs.Promise.{SoundAt, PassedAt, NoneInside, Agree, Latest, IsWanting, IsOver, Balance, BothPassed, AllPassed, Promise, Promised, PromisedAny}
-use Rattle.receiver.proofs.Tails.{never, Clear, bytes_take, bytes_append, run_drop, run_front, clear_unsound}
-use Rattle.receiver.proofs.Kept.{Inside, Keeps, kept, held_length, find_comes}
+use Rattle.receiver.specs.Promise.{SoundAt, PassedAt, NoneInside, Agree, Latest, IsWanting, IsOver, Balance, BothPassed, AllPassed, Promise, Promised, Leads, FindLeads}
+use Rattle.receiver.proofs.Tails.{Clear, bytes_append, run_drop, run_front, clear_unsound}
+use Rattle.receiver.proofs.Stopping.{stops_first}
+use Rattle.receiver.proofs.Kept.{Inside, Keeps, kept, held_length, finding, find_comes}
+use Rattle.receiver.proofs.Searched.{Searched}
 
 -- two lists that agree as far as both reach: the longer begins with the shorter
 begins : (xs ys : List ℕ) → length xs ≤ length ys → ((i : ℕ) → i < length xs → get_or xs i 0 ≡ get_or ys i 0) → ys ≡ xs ++ drop (length xs) ys
@@ -43,7 +45,7 @@ module _ {J : List ℕ → Verdict} {L : ℕ} (law : Lawful J L) (small : L ≤ 
       shorter le Unfit q =
           let e = begins ys xs le (λ i h. sym (same i (omega arith) h)) in
           let a = law.unfit_stays ys (drop (length ys) xs) (subst Run e rx) q in
-          let b : J xs ≡ Unfit = ap J e ∙ a in never (cc)
+          let b : J xs ≡ Unfit = ap J e ∙ a in cc
       shorter le (Short m) q = let w = law.waiting ys m ry q in absurd (omega arith)
 
   -- a sound frame of one receiver is one of the other, equally far behind its joint, if that has taken enough to tell
@@ -87,33 +89,26 @@ module _ {J : List ℕ → Verdict} {L : ℕ} (law : Lawful J L) (small : L ≤ 
     balanced : Balance J es
     balanced = record { sums = held_length law small (taken es) (place es) (frames es) (replay J (calls_of es)) keeps; rest = keeps.held; few = keeps.few; sound = keeps.sound; apart = keeps.apart }
 
-  -- what a find's answer tells of the held bytes
-  held_wanting : (es : Record) → Answered J es → Run (taken es) → Latest IsWanting es → length (replay J (calls_of es)).held < L
-  held_wanting [] a r w = absurd w
-  held_wanting (feeds bs x ∷ es) a r w = absurd w
-  held_wanting (finds x ∷ es) a r w =
+  -- what a latest find went by
+  latest_find : (P : Answer → Type 0) (es : Record) → Answered J es → Run (taken es) → Latest P es
+      → (ended : Bool) × (xs : List ℕ) × (f : Search) × Searched J L ended xs f × P f.answer × ((replay J (calls_of es)).held ≡ f.held)
+  latest_find P [] a r w = absurd w
+  latest_find P (feeds bs x ∷ es) a r w = absurd w
+  latest_find P (finds x ∷ es) a r w =
       let p = replay J (calls_of es) in
       let run = run_front (taken es) [] r in
-      let f = find_comes law small (taken es) (place es) (frames es) p run (kept law small es a.1 run) in
-      let e = a.0 in
-      let v = w.1 in
-      f.wanting w.0 (cc)
-  held_wanting (shows x ∷ es) a r w = absurd w
-  held_wanting (passes x ∷ es) a r w = absurd w
-  held_wanting (ends ∷ es) a r w = absurd w
+      let told : x.answer ≡ (finding law small p).answer = let e = a.0 in cc in
+      (p.ended, p.held, finding law small p, find_comes law small (taken es) (place es) (frames es) p run (kept law small es a.1 run), subst P told w, refl)
+  latest_find P (shows x ∷ es) a r w = absurd w
+  latest_find P (passes x ∷ es) a r w = absurd w
+  latest_find P (ends ∷ es) a r w = absurd w
+
+  -- what its answer tells of the held bytes
+  held_wanting : (es : Record) → Answered J es → Run (taken es) → Latest IsWanting es → length (replay J (calls_of es)).held < L
+  held_wanting es a r w = let (ended, xs, f, s, v, e) = latest_find IsWanting es a r w in rw e (s.wanting v.0 v.1)
 
   held_over : (es : Record) → Answered J es → Run (taken es) → Latest IsOver es → length (replay J (calls_of es)).held ≡ 0
-  held_over [] a r w = absurd w
-  held_over (feeds bs x ∷ es) a r w = absurd w
-  held_over (finds x ∷ es) a r w =
-      let p = replay J (calls_of es) in
-      let run = run_front (taken es) [] r in
-      let f = find_comes law small (taken es) (place es) (frames es) p run (kept law small es a.1 run) in
-      let e = a.0 in
-      f.over (cc)
-  held_over (shows x ∷ es) a r w = absurd w
-  held_over (passes x ∷ es) a r w = absurd w
-  held_over (ends ∷ es) a r w = absurd w
+  held_over es a r w = let (ended, xs, f, s, v, e) = latest_find IsOver es a r w in rw e (s.over v)
 
   all_passed : (es : Record) → Answered J es → Run (taken es) → AllPassed J L es
   all_passed es a r j none over d n far sound =
@@ -148,19 +143,15 @@ module _ {J : List ℕ → Verdict} {L : ℕ} (law : Lawful J L) (small : L ≤ 
     run = (bytes_append (taken es) (taken_by e) l.run.0 octets, few);
   })
 
-promised_any : (s t : State) (e : Event) → Bytes (taken_by e) → FollowsAny s e t → PromisedAny s e t
-promised_any s t e octets by J L law small = promised law small s t e (by J) octets
+pub leads : (s t : State) (e : Event) → Bytes (taken_by e) → FollowsAny s e t → Leads s e t
+leads s t e octets by = record { rule = by; promise = λ J L law small. promised law small s t e (by J) octets }
 
 -- a call that takes nothing
-pub promised_quiet : (s t : State) (e : Event) → taken_by e ≡ [] → FollowsAny s e t → PromisedAny s e t
-promised_quiet s t e none by = promised_any s t e (rw none no_bytes) by
+pub leads_quiet : (s t : State) (e : Event) → taken_by e ≡ [] → FollowsAny s e t → Leads s e t
+leads_quiet s t e none by = leads s t e (rw none no_bytes) by
   where
     no_bytes : Bytes []
     no_bytes k = omega arith
 
-pub promised_fed : (s t : State) (bs : List ℕ) (x : Result ℕ LineFault) → Bytes bs → FollowsAny s (feeds bs x) t → PromisedAny s (feeds bs x) t
-promised_fed s t bs (Ok n) octets by = promised_any s t (feeds bs (Ok n)) (bytes_take n bs octets) by
-promised_fed s t bs (Err f) octets by = promised_quiet s t (feeds bs (Err f)) refl by
-
-pub promised_found : {J : List ℕ → Verdict} {L : ℕ} (law : Lawful J L) (s t : State) (r : Finding) → Follows J s (finds r) t → L ≤ capacity → Promised J L s (finds r) t
-promised_found law s t r by small = promised law small s t (finds r) by (λ k. omega arith)
+pub find_leads : {J : List ℕ → Verdict} {L : ℕ} (law : Lawful J L) (s t : State) (r : Finding) → Follows J s (finds r) t → FindLeads J L s r t
+find_leads {J = J} law s t r by = record { rule = by; first = stops_first J s r t by; promise = λ small. promised law small s t (finds r) by (λ k. omega arith) }

@@ -1,37 +1,34 @@
--- The rule at calls whose case is known, as the code's states come out.
-use Rattle.std.proofs.Common.{◌≡◌, ℕ, Bool, true, false, List, ◌++◌, take, drop, Some, None, Ok, Err, Result, sym, refl, ap, ◌∙◌}
+-- The rule and the promise at calls whose case is known, as the code's states come out.
+use Rattle.std.proofs.Common.{◌≡◌, ℕ, true, false, List, ◌++◌, take, drop, Some, None, Ok, Err, Result, sym, refl, ap, ◌∙◌}
 use Rattle.faults.specs.declared.line.LineFault.{LineFault}
 use Rattle.faults.specs.declared.line.LineFault.TheVariants.{Ended, NoFrame}
-use Rattle.framing.specs.declared.verdict.Verdict.{Verdict}
+use Rattle.framing.specs.Laws.{Bytes}
 use Rattle.receiver.specs.State.{State}
-use Rattle.receiver.specs.Rule.{Follows, FollowsAny, comes, feeds, shows, passes, ends, taking, found_frame, feed_outcome, pass_outcome}
-use Rattle.receiver.specs.View.{When}
-use Rattle.receiver.specs.Promise.{PromisedAny}
-use Rattle.receiver.proofs.Promises.{promised_quiet}
+use Rattle.receiver.specs.Rule.{comes, feeds, shows, passes, ends, taking, found_frame, feed_outcome, pass_outcome}
+use Rattle.receiver.specs.Promise.{Leads}
+use Rattle.receiver.proofs.Tails.{bytes_take}
+use Rattle.receiver.proofs.Promises.{leads, leads_quiet}
 
-module _ (J : List ℕ → Verdict) (s : State) where
-  pub shows_found : (x : Result (List ℕ) LineFault) → x ≡ found_frame s.found s.held → Follows J s (shows x) s
-  shows_found x e = ap (λ y. comes (shows y) s) (sym e)
+pub shows_found : (s : State) (x : Result (List ℕ) LineFault) → x ≡ found_frame s.found s.held → Leads s (shows x) s
+shows_found s x e = leads_quiet s s (shows x) refl (λ J. ap (λ y. comes (shows y) s) (sym e))
 
-  pub passes_some : (n : ℕ) (ys : List ℕ) → s.found ≡ Some n → ys ≡ drop n s.held → Follows J s (passes (Ok n)) (record { held = ys; found = None; ended = s.ended })
-  passes_some n ys e f = ap (λ o. pass_outcome o s) e ∙ ap (λ zs. comes (passes (Ok n)) (record { held = zs; found = None; ended = s.ended })) (sym f)
+pub passes_some : (s : State) (n : ℕ) (ys : List ℕ) → s.found ≡ Some n → ys ≡ drop n s.held → Leads s (passes (Ok n)) (record { held = ys; found = None; ended = s.ended })
+passes_some s n ys e f =
+    leads_quiet s _ (passes (Ok n)) refl (λ J. ap (λ o. pass_outcome o s) e ∙ ap (λ zs. comes (passes (Ok n)) (record { held = zs; found = None; ended = s.ended })) (sym f))
 
-  pub passes_none : s.found ≡ None → Follows J s (passes (Err NoFrame)) s
-  passes_none e = ap (λ o. pass_outcome o s) e
+pub passes_none : (s : State) → s.found ≡ None → Leads s (passes (Err NoFrame)) (record { held = s.held; found = None; ended = s.ended })
+passes_none s e = leads_quiet s _ (passes (Err NoFrame)) refl (λ J. ap (λ o. pass_outcome o s) e ∙ (λ i. comes (passes (Err NoFrame)) (record { held = s.held; found = e i; ended = s.ended })))
 
-  pub feeds_ended : (bs : List ℕ) → s.ended ≡ true → Follows J s (feeds bs (Err Ended)) s
-  feeds_ended bs e = ap (λ b. feed_outcome b s bs) e
+pub feeds_ended : (s : State) (bs : List ℕ) → s.ended ≡ true → Leads s (feeds bs (Err Ended)) s
+feeds_ended s bs e = leads_quiet s s (feeds bs (Err Ended)) refl (λ J. ap (λ b. feed_outcome b s bs) e)
 
-  pub feeds_open : (bs : List ℕ) (n : ℕ) (t : State) → s.ended ≡ false → n ≡ taking s.held bs → t.held ≡ s.held ++ take n bs → t.found ≡ s.found → t.ended ≡ s.ended → Follows J s (feeds bs (Ok n)) t
-  feeds_open bs n t e same held found ended =
-      ap (λ b. feed_outcome b s bs) e ∙ ap (λ k. comes (feeds bs (Ok k)) (record { held = s.held ++ take k bs; found = s.found; ended = s.ended })) (sym same)
-      ∙ (λ i. comes (feeds bs (Ok n)) (record { held = sym held i; found = sym found i; ended = sym ended i }))
+pub feeds_open : (s : State) (bs : List ℕ) (n : ℕ) (t : State) → Bytes bs → s.ended ≡ false → n ≡ taking s.held bs → t.held ≡ s.held ++ take n bs → t.found ≡ s.found → t.ended ≡ s.ended
+    → Leads s (feeds bs (Ok n)) t
+feeds_open s bs n t octets e same held found ended =
+    leads s t (feeds bs (Ok n)) (bytes_take n bs octets)
+    (λ J. ap (λ b. feed_outcome b s bs) e ∙ ap (λ k. comes (feeds bs (Ok k)) (record { held = s.held ++ take k bs; found = s.found; ended = s.ended })) (sym same)
+    ∙ (λ i. comes (feeds bs (Ok n)) (record { held = sym held i; found = sym found i; ended = sym ended i })))
 
--- setting the end, where it is set
-pub ends_when : (s : State) (b : Bool) → When b (FollowsAny s ends (record { held = s.held; found = s.found; ended = b }))
-ends_when s true = λ J. refl
-ends_when s false = tt
-
-pub ends_promised : (s : State) (b : Bool) → When b (PromisedAny s ends (record { held = s.held; found = s.found; ended = b }))
-ends_promised s true = promised_quiet s _ ends refl (λ J. refl)
-ends_promised s false = tt
+-- an end, whatever was set before
+pub ends_always : (s : State) → Leads s ends (record { held = s.held; found = s.found; ended = true })
+ends_always s = leads_quiet s _ ends refl (λ J. refl)

@@ -1,6 +1,6 @@
 -- What a find comes to, with no repetition in it.
 use Rattle.std.proofs.Common.{◌≡◌, ℕ, zero, suc, ◌+◌, ◌<◌, ◌≤◌, Bool, true, false, cond, leb, List, [], ◌∷◌, length, drop, Some, None, Option, sym, refl, ap, ◌∙◌, subst, inl, inr, one-add, arith}
-use Rattle.std.proofs.lemmas.Bool.{leb-true, leb-false}
+use Rattle.std.proofs.lemmas.Bool.{ne_eqb, leb-true, leb-false}
 use Rattle.framing.specs.declared.verdict.Verdict.{Verdict}
 use Rattle.framing.specs.declared.verdict.Verdict.TheVariants.{Sound, Short, Unfit}
 use Rattle.receiver.specs.declared.answer.Answer.{Answer}
@@ -8,21 +8,23 @@ use Rattle.receiver.specs.declared.answer.Answer.TheVariants.{Wanting, Frame}
 use Rattle.receiver.specs.declared.answer.Finding.{Finding}
 use Rattle.receiver.specs.declared.receiver.find.Turn.TheVariants.{Wait, Drop}
 use Rattle.receiver.specs.State.{State, capacity}
-use Rattle.receiver.specs.Rule.{Search, seek, seek_from, turn_by, follow, stop, behind, Outcome, Event, finds, Follows, NoStart, Says, StopsFirst}
-use Rattle.receiver.proofs.Tails.{never}
-use Rattle.receiver.proofs.Searched.{turn_held}
+use Rattle.receiver.specs.Rule.{Search, seek, seek_from, turn_by, turn_at, follow, stop, behind, Outcome, Event, finds, Follows, NoStart, Says, StopsFirst}
+
+-- with a byte held, the turn goes by the verdict
+pub turn_held : (J : List ℕ → Verdict) (ended : Bool) (xs : List ℕ) → 0 < length xs → turn_at J ended xs ≡ turn_by None ended (Some (J xs))
+turn_held J ended xs h = ap (λ t. turn_by None ended (cond t None (Some (J xs)))) (ne_eqb (length xs) 0 (λ e. omega arith))
 
 module _ (J : List ℕ → Verdict) where
   -- what an answer says, by the parts of the two states
-  abbrev SaysBy : Option ℕ → Bool → List ℕ → Option ℕ → Answer → Type 0
+  abbrev pub SaysBy : Option ℕ → Bool → List ℕ → Option ℕ → Answer → Type 0
   SaysBy o ended xs p a = Says J (record { held = []; found = o; ended = ended }) (record { held = xs; found = p; ended = ended }) a
 
   -- the same of a search
-  record Stopped (o : Option ℕ) (ended : Bool) (xs : List ℕ) (f : Search) : Type 0 where
-    within : f.dropped ≤ length xs
-    rest : f.held ≡ drop f.dropped xs
-    dropped : (i : ℕ) → i < f.dropped → NoStart J ended (drop i xs)
-    says : SaysBy o ended f.held f.found f.answer
+  pub record Stopped (o : Option ℕ) (ended : Bool) (xs : List ℕ) (f : Search) : Type 0 where
+    pub within : f.dropped ≤ length xs
+    pub rest : f.held ≡ drop f.dropped xs
+    pub dropped : (i : ℕ) → i < f.dropped → NoStart J ended (drop i xs)
+    pub says : SaysBy o ended f.held f.found f.answer
 
   here : (o : Option ℕ) (ended : Bool) (xs : List ℕ) (a : Answer) (p : Option ℕ) → SaysBy o ended xs p a → Stopped o ended xs (stop a xs p)
   here o ended xs a p h = record { within = omega arith; rest = refl; dropped = λ i lt. absurd (omega arith); says = h }
@@ -56,12 +58,12 @@ module _ (J : List ℕ → Verdict) where
           short true q = here None false (b ∷ bs) (Wanting m) None (refl, refl, refl, leb-true m capacity q, inr (some, e))
           short false q = one_more false b bs (seek J false bs) (inr (m, (e, inr (leb-false m capacity q)))) s
 
-  stopped_from : (o : Option ℕ) (ended : Bool) (xs : List ℕ) → Stopped o ended xs (seek_from J o ended xs)
+  pub stopped_from : (o : Option ℕ) (ended : Bool) (xs : List ℕ) → Stopped o ended xs (seek_from J o ended xs)
   stopped_from None ended xs = stopped ended xs
   stopped_from (Some n) ended xs = here (Some n) ended xs (Frame n) (Some n) (refl, inl refl)
 
-  none_dropped : (o : Option ℕ) (ended : Bool) (xs : List ℕ) (n : ℕ) → o ≡ Some n → (seek_from J o ended xs).dropped ≡ 0
-  none_dropped None ended xs n e = never (cc)
+  pub none_dropped : (o : Option ℕ) (ended : Bool) (xs : List ℕ) (n : ℕ) → o ≡ Some n → (seek_from J o ended xs).dropped ≡ 0
+  none_dropped None ended xs n e = cc
   none_dropped (Some m) ended xs n e = refl
 
   retold : (s t : State) (a : Answer) → SaysBy s.found s.ended t.held t.found a → Says J s t a
@@ -100,7 +102,7 @@ module _ (J : List ℕ → Verdict) where
   found_sound s r t n f none some = by r.answer f.says
     where
       by : (a : Answer) → Says J s t a → J t.held ≡ Sound n
-      by (Frame m) (e, inl q) = never (cc)
+      by (Frame m) (e, inl q) = cc
       by (Frame m) (e, inr (o, l, q)) = let same : m ≡ n = cc in q ∙ ap Sound same
-      by (Wanting m) h = let g = h.1 in never (cc)
-      by Answer.Over h = let g = h.1 in never (cc)
+      by (Wanting m) h = let g = h.1 in cc
+      by Answer.Over h = let g = h.1 in cc

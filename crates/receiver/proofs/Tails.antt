@@ -1,25 +1,21 @@
 -- Tails of a run, and what bytes added behind it leave.
-use Rattle.std.proofs.Common.{◌≡◌, ℕ, zero, suc, ◌+◌, ◌<◌, ◌≤◌, Bool, true, ◌⊎◌, List, [], ◌∷◌, ◌++◌, length, get_or, take, drop, inl, inr, arith}
-use Rattle.std.proofs.lemmas.List.{length-append, length-drop, length-take, get_or-drop, get_or-take, get_or_append_left, get_or_past, drop-append-le}
-use Rattle.std.proofs.lemmas.Bool.{cases_lt}
+use Rattle.std.proofs.Common.{◌≡◌, ℕ, zero, suc, ◌+◌, ◌≤◌, Bool, true, ◌⊎◌, List, [], ◌∷◌, ◌++◌, length, take, drop, inl, inr, arith}
+use Rattle.std.proofs.lemmas.List.{take-append-drop, length-append, length-drop, get_or-drop, drop-append-le}
 use Rattle.framing.specs.Laws.{Lawful, Run, Bytes}
 use Rattle.framing.specs.declared.verdict.Verdict.{Verdict}
 use Rattle.framing.specs.declared.verdict.Verdict.TheVariants.{Sound, Unfit}
 use Rattle.receiver.specs.Promise.{SoundAt}
 
--- from an equation between different constructors, which cc turns into this one
-pub never : {X : Type 0} → ◌≡◌ {A = ℕ} 0 1 → X
-never e = absurd (omega arith)
-
 pub bytes_drop : (k : ℕ) (xs : List ℕ) → Bytes xs → Bytes (drop k xs)
 bytes_drop k xs b i = rw (get_or-drop k xs i 0) (b (k + i))
 
+pub bytes_front : (xs ys : List ℕ) → Bytes (xs ++ ys) → Bytes xs
+bytes_front [] ys b k = omega arith
+bytes_front (x ∷ xs) ys b zero = b zero
+bytes_front (x ∷ xs) ys b (suc k) = bytes_front xs ys (λ j. b (suc j)) k
+
 pub bytes_take : (n : ℕ) (xs : List ℕ) → Bytes xs → Bytes (take n xs)
-bytes_take n xs b i = at (cases_lt i n)
-  where
-    at : (i < n) ⊎ (n ≤ i) → get_or (take n xs) i 0 < 256
-    at (inl h) = rw (get_or-take n xs i 0 h) (b i)
-    at (inr h) = rw (get_or_past (take n xs) i 0 (rw (length-take n xs) (omega arith))) (omega arith)
+bytes_take n xs b = bytes_front (take n xs) (drop n xs) (rw take-append-drop b)
 
 pub bytes_append : (xs ys : List ℕ) → Bytes xs → Bytes ys → Bytes (xs ++ ys)
 bytes_append [] ys h g k = g k
@@ -30,14 +26,7 @@ pub run_drop : (k : ℕ) (xs : List ℕ) → Run xs → Run (drop k xs)
 run_drop k xs r = (bytes_drop k xs r.0, rw (length-drop k xs) (omega (arith, r.1)))
 
 pub run_front : (xs ys : List ℕ) → Run (xs ++ ys) → Run xs
-run_front xs ys r = (bytes, omega (arith, length-append xs ys, r.1))
-  where
-    at : (i : ℕ) → (i < length xs) ⊎ (length xs ≤ i) → get_or xs i 0 < 256
-    at i (inl h) = rw (get_or_append_left xs ys 0 i h) at (r.0 i)
-    at i (inr h) = rw (get_or_past xs i 0 h) (omega arith)
-
-    bytes : Bytes xs
-    bytes i = at i (cases_lt i (length xs))
+run_front xs ys r = (bytes_front xs ys r.0, omega (arith, length-append xs ys, r.1))
 
 -- no frame starts here, whatever is still taken
 abbrev pub Clear : (List ℕ → Verdict) → Bool → List ℕ → Type 0
@@ -56,5 +45,5 @@ module _ {J : List ℕ → Verdict} {L : ℕ} (law : Lawful J L) where
       rw e (law.unfit_stays (drop at xs) more (rw e at (run_drop at (xs ++ more) r)) u)
 
   pub clear_unsound : (ended : Bool) (xs : List ℕ) (n : ℕ) → Clear J ended xs → J xs ≡ Sound n → ⊥
-  clear_unsound ended xs n (inl u) s = never (cc)
+  clear_unsound ended xs n (inl u) s = cc
   clear_unsound ended xs n (inr p) s = p.1 n s

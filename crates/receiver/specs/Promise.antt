@@ -5,8 +5,9 @@ use Rattle.framing.specs.declared.verdict.Verdict.{Verdict}
 use Rattle.framing.specs.declared.verdict.Verdict.TheVariants.{Sound}
 use Rattle.receiver.specs.declared.answer.Answer.{Answer}
 use Rattle.receiver.specs.declared.answer.Answer.TheVariants.{Wanting, Over}
+use Rattle.receiver.specs.declared.answer.Finding.{Finding}
 use Rattle.receiver.specs.State.{State, capacity}
-use Rattle.receiver.specs.Rule.{Event, feeds, finds, shows, passes, ends}
+use Rattle.receiver.specs.Rule.{Event, feeds, finds, shows, passes, ends, Follows, FollowsAny, StopsFirst}
 use Rattle.receiver.specs.Record.{Record, Span, span_at, taken, dropped, passed, held, frames, Led}
 
 -- A sound frame of n bytes starts at this taken byte: the verdict on all bytes taken from there on is sound n.
@@ -115,6 +116,18 @@ Promised judged longest s e t =
 abbrev pub PromisedAny : State → Event → State → Type 0
 PromisedAny s e t =
     (judged : List ℕ → Verdict) (longest : ℕ) → Lawful judged longest → longest ≤ capacity → Promised judged longest s e t
+
+-- A call that asks no framing leads from the first state to the second: by the rule, and with the promise.
+pub record Leads (s : State) (e : Event) (t : State) : Type 0 where
+  pub rule : FollowsAny s e t
+  pub promise : PromisedAny s e t
+
+-- A find by this framing leads from the first state to the second: by the rule, as told with no repetition, and with the
+-- promise where a longest frame can be held.
+pub record FindLeads (judged : List ℕ → Verdict) (longest : ℕ) (s : State) (r : Finding) (t : State) : Type 0 where
+  pub rule : Follows judged s (finds r) t
+  pub first : StopsFirst judged s r t
+  pub promise : longest ≤ capacity → Promised judged longest s (finds r) t
 
 -- a new receiver: the record with no call
 abbrev pub PromisedNew : State → Type 0

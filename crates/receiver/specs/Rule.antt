@@ -61,6 +61,10 @@ turn_by None ended (Some Unfit) = turns.Drop 1
 turn_by None true (Some (Short m)) = turns.Drop 1
 turn_by None false (Some (Short m)) = cond (nat_le m capacity) (turns.Wait m) (turns.Drop 1)
 
+-- the turn at this state
+abbrev pub turn_of : (List ℕ → Verdict) → State → Turn
+turn_of judged s = turn_by s.found s.ended (consulted judged s.found s.held)
+
 -- what find comes to: the answer, how many bytes it drops, what is held then, and the frame found there
 pub record Search : Type 0 where
   pub answer : Answer

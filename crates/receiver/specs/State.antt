@@ -1,5 +1,5 @@
 -- What a receiver holds.
-use Rattle.std.specs.Prelude.{ℕ, ◌-◌, ◌*◌, Bool, false, List, [], take, drop, Some, None, Option}
+use Rattle.std.specs.Prelude.{ℕ, ◌*◌, Bool, false, List, [], Some, None, Option}
 
 -- the most bytes that are held at a time
 abbrev pub capacity : ℕ
@@ -20,10 +20,6 @@ pub record State : Type 0 where
 -- a new receiver
 abbrev pub fresh : State
 fresh = record { held = []; found = None; ended = false }
-
--- the bytes from `from` up to `to`
-abbrev pub stretch : List ℕ → ℕ → ℕ → List ℕ
-stretch bytes from to = take (to - from) (drop from bytes)
 
 -- the length of a found frame, 0 where there is none
 abbrev pub length_of : Option ℕ → ℕ

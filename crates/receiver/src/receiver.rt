@@ -15,7 +15,8 @@ pub const CAPACITY: usize = 4352;
 const ROOM: usize = 2 * CAPACITY;
 
 // Takes bytes, finds frames among them, and hands these out. The held bytes
-// stand from `start` up to `end`.
+// stand from `start` up to `end`: in fixed memory, and as one slice, where a
+// ring or a `VecDeque` may hold them in two parts, and the latter allocates.
 #[derive(Drop)]
 pub struct Receiver {
     bytes: [u8; ROOM],
@@ -23,6 +24,8 @@ pub struct Receiver {
     end: usize,
     // the length of the found frame, which stands at the front
     found: Option<usize>,
+    // beside `found` and no case of an enum with it: by the project's rule one
+    // match in find acts on the two and the verdict together
     ended: bool,
     ghost ordered: { start ≤ end },
     ghost inside: { end ≤ room },

@@ -1,3 +1,2 @@
-mod Columns
-mod Digits
+pub mod Fewer
 mod Lines

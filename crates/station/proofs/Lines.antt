@@ -1,42 +1,44 @@
 -- The line of an ensemble, and of what is none.
-use Rattle.std.proofs.Common.{◌≡◌, ℕ, ◌+◌, ◌*◌, ◌<◌, ◌≤◌, Bool, true, false, cond, leb, List, [], ◌∷◌, ◌++◌, map, length, get_or, take, drop, is_some, is_err, Some, None, Ok, Err, Option, Result, sym, refl, ap, ◌∙◌, arith, Bor}
-use Rattle.std.proofs.lemmas.List.{get_or-take, get_or-drop}
+use Rattle.std.proofs.Common.{◌≡◌, ℕ, ◌+◌, ◌*◌, ◌<◌, ◌≤◌, Bool, true, false, cond, leb, List, [], ◌∷◌, ◌++◌, map, length, get_or, take, drop, Some, None, Ok, Err, Option, Result, refl, ap, subst, ◌∙◌, arith}
+use Rattle.std.proofs.lemmas.List.{get_or-take}
+use Rattle.faults.proofs.Asked.{refused_append}
 use Rattle.faults.specs.Questions.{ask, first_fault, answered, all_yes}
 use Rattle.faults.specs.declared.line.LineFault.{LineFault}
-use Rattle.faults.specs.declared.line.LineFault.TheVariants.{InSection, NoFrame}
+use Rattle.faults.specs.declared.line.LineFault.TheVariants.{InSection}
 use Rattle.faults.specs.declared.section.SectionFault.{SectionFault}
 use Rattle.faults.specs.declared.section.SectionFault.TheVariants.{Space}
+use Rattle.framing.specs.Stored.{word}
 use Rattle.pd0.specs.Ensembles.{IsEnsemble}
 use Rattle.pd0.specs.Layout.{count_of, size_of, offset, section_size}
 use Rattle.pd0.specs.Questions.{questions, opened}
-use Rattle.pd0.proofs.Ensembles.{opening_laws}
-use Rattle.receiver.specs.Rule.{found_frame}
-use Rattle.receiver.specs.View.{When, shown}
-use Rattle.receiver.specs.State.{State, length_of}
-use Rattle.receiver.proofs.Tails.{never}
+use Rattle.pd0.specs.Verdicts.{judged_run}
+use Rattle.pd0.specs.Opened.{opening_laws}
+use Rattle.pd0.proofs.Wholes.{sectioned_from}
+use Rattle.pd0.specs.Sounds.{exactly_ensembles}
+use Rattle.receiver.specs.declared.answer.Finding.{Finding}
+use Rattle.receiver.specs.Rule.{StopsFirst, found_frame}
+use Rattle.receiver.specs.State.{State}
+use Rattle.receiver.proofs.Stopping.{found_sound}
 use Rattle.station.specs.Lines.{variable_leader, ensemble_number, line_text, written, spaced, spaced_buffer}
-use Rattle.station.specs.Listed.{frame_questions, frame_lined, frame_buffer, in_section, lined, lined_buffer}
+use Rattle.station.specs.Listed.{frame_questions, frame_lined, frame_buffer, in_section, lined, lined_buffer, FoundEnsemble}
 
--- a byte of the Variable Leader
-leader_byte : (bs : List ℕ) → IsEnsemble bs → (i : ℕ) → i < 65 → get_or (variable_leader bs) i 0 ≡ get_or bs (offset bs 1 + i) 0
-leader_byte bs s i lt = get_or-take _ (drop (offset bs 1) bs) i 0 inside ∙ get_or-drop (offset bs 1) bs i 0
-  where
-    least : 65 ≤ section_size bs (count_of bs) (size_of bs) 1
-    least = rw s.leaders.1 at (s.sizes 1 (omega (arith, s.sections.0)))
+module _ (bs : List ℕ) (s : IsEnsemble bs) where
+  leader_size : 65 ≤ section_size bs (count_of bs) (size_of bs) 1
+  leader_size = rw s.leaders.1 at (s.sizes 1 (omega (arith, s.sections.0)))
 
-    inside : i < section_size bs (count_of bs) (size_of bs) 1
-    inside = omega (arith, least)
+  -- an ensemble has its header, the offsets of two sections, and its Variable Leader
+  pub leader_room : (12 ≤ length bs) × (offset bs 1 + 65 ≤ length bs)
+  leader_room =
+      let i = (sectioned_from bs s).inside 1 (omega (arith, s.sections)) in
+      (omega (arith, s.size, s.sections, s.whole), omega (arith, i, leader_size, s.whole))
 
--- the number, by bytes that were read from where the Variable Leader begins
-pub number_at :
-    (bs : List ℕ) → IsEnsemble bs → (l a b c : ℕ) → l ≡ offset bs 1 → a ≡ get_or bs (l + 2) 0 → b ≡ get_or bs (l + 2 + 1) 0 → c ≡ get_or bs (l + 11) 0
-    → a + b * 256 + 65536 * c ≡ ensemble_number bs
-number_at bs s l a b c at e f g =
-    rw (leader_byte bs s 2 (omega arith), leader_byte bs s 3 (omega arith), leader_byte bs s 11 (omega arith))
-    (omega (arith, e ∙ same 2 (l + 2) (omega arith), f ∙ same 3 (l + 2 + 1) (omega arith), g ∙ same 11 (l + 11) (omega arith)))
-  where
-    same : (i k : ℕ) → k ≡ offset bs 1 + i → get_or bs k 0 ≡ get_or bs (offset bs 1 + i) 0
-    same i k h = ap (λ n. get_or bs n 0) h
+  -- a byte of the Variable Leader
+  leader_byte : (i : ℕ) → i < 65 → get_or (variable_leader bs) i 0 ≡ get_or (drop (offset bs 1) bs) i 0
+  leader_byte i lt = get_or-take _ (drop (offset bs 1) bs) i 0 (omega (arith, leader_size))
+
+  -- the number, by bytes that are read from where the Variable Leader begins
+  pub number_at : word (drop (offset bs 1) bs) 2 + 65536 * get_or (drop (offset bs 1) bs) 11 0 ≡ ensemble_number bs
+  number_at = rw (leader_byte 2 (omega arith), leader_byte 3 (omega arith), leader_byte 11 (omega arith)) refl
 
 -- what is asked behind other questions counts where those are answered by yes
 module _ {F : Type 0} where
@@ -44,19 +46,14 @@ module _ {F : Type 0} where
   last [] None e = refl
   last [] (Some f) e = refl
   last (None ∷ os) q e = last os q e
-  last (Some f ∷ os) q e = never (cc)
-
-  earlier : (os : List (Option F)) (q : Option F) (f : F) → first_fault os ≡ Some f → first_fault (os ++ q ∷ []) ≡ Some f
-  earlier [] q f e = never (cc)
-  earlier (None ∷ os) q f e = earlier os q f e
-  earlier (Some g ∷ os) q f e = e
+  last (Some f ∷ os) q e = cc
 
   none_asked : {X : Type 0} (o : Option F) (x : X) → answered o x ≡ Ok x → o ≡ None
   none_asked None x e = refl
-  none_asked (Some f) x e = never (cc)
+  none_asked (Some f) x e = cc
 
   one_asked : {X : Type 0} (o : Option F) (x : X) (f : F) → answered o x ≡ Err f → o ≡ Some f
-  one_asked None x f e = never (cc)
+  one_asked None x f e = cc
   one_asked (Some g) x f e = cc
 
 module _ (bs out : List ℕ) where
@@ -80,7 +77,7 @@ module _ (bs out : List ℕ) where
 
   -- what does not open is refused as opening refuses it
   refused_first : (f : SectionFault) → opened bs ≡ Err f → first_fault (frame_questions bs out) ≡ Some f
-  refused_first f e = earlier (questions bs) _ f (one_asked (first_fault (questions bs)) tt f e)
+  refused_first f e = one_asked (first_fault (frame_questions bs out)) tt f (refused_append (questions bs) _ tt f e)
 
   pub refused_lined : (f : SectionFault) → opened bs ≡ Err f → frame_lined bs out ≡ Err f
   refused_lined f e = ap (λ o. answered o (length (line_text bs))) (refused_first f e)
@@ -98,50 +95,49 @@ first_raised [] = refl
 first_raised (None ∷ os) = first_raised os
 first_raised (Some f ∷ os) = refl
 
-module _ (s : State) (out : List ℕ) where
-  pub none_lined : s.found ≡ None → (lined s out ≡ Err NoFrame) × (lined_buffer s out ≡ out)
-  none_lined e = (
-    ap (λ o. answered {F = LineFault} (first_fault (ask (is_some o) NoFrame ∷ map in_section (frame_questions (take (length_of o) s.held) out))) (length (line_text (take (length_of o) s.held)))) e,
-    ap (λ o. cond (all_yes (first_fault (ask {F = LineFault} (is_some o) NoFrame ∷ map in_section (frame_questions (take (length_of o) s.held) out)))) (written (line_text (take (length_of o) s.held)) out) out) e,
-  )
+raised_answer : (o : Option SectionFault) (n : ℕ) → answered (in_section o) n ≡ raised (answered o n)
+raised_answer None n = refl
+raised_answer (Some f) n = refl
 
-  by_answer : (o : Option SectionFault) (n : ℕ) → answered (in_section o) n ≡ raised (answered o n)
-  by_answer None n = refl
-  by_answer (Some f) n = refl
-
-  by_answer_too : (o : Option SectionFault) → all_yes (in_section o) ≡ all_yes o
-  by_answer_too None = refl
-  by_answer_too (Some f) = refl
-
-  pub some_lined : (n : ℕ) → s.found ≡ Some n → (lined s out ≡ raised (frame_lined (take n s.held) out)) × (lined_buffer s out ≡ frame_buffer (take n s.held) out)
-  some_lined n e = (
-    ap (λ o. answered {F = LineFault} (first_fault (ask (is_some o) NoFrame ∷ map in_section (frame_questions (take (length_of o) s.held) out))) (length (line_text (take (length_of o) s.held)))) e
-        ∙ ap (λ o. answered o (length (line_text bs))) (first_raised (frame_questions bs out)) ∙ by_answer (first_fault (frame_questions bs out)) (length (line_text bs)),
-    ap (λ o. cond (all_yes (first_fault (ask {F = LineFault} (is_some o) NoFrame ∷ map in_section (frame_questions (take (length_of o) s.held) out)))) (written (line_text (take (length_of o) s.held)) out) out) e
-        ∙ ap (λ o. cond (all_yes o) (written (line_text bs) out) out) (first_raised (frame_questions bs out)) ∙ ap (λ t. cond t (written (line_text bs) out) out) (by_answer_too (first_fault (frame_questions bs out))),
-  )
-    where
-      bs : List ℕ
-      bs = take n s.held
-
--- a frame was found only where one is shown
-pub none_found : (o : Option ℕ) (held : List ℕ) (x : Result (Bor (List ℕ)) LineFault) → shown x ≡ found_frame o held → is_err x ≡ true → o ≡ None
-none_found None held x e f = refl
-none_found (Some n) held (Ok r) e f = never (cc)
-none_found (Some n) held (Err g) e f = never (cc)
-
-pub when : {P : Type 0} (b : Bool) → (b ≡ true → P) → When b P
-when true p = p refl
-when false p = tt
+raised_yes : (o : Option SectionFault) → all_yes (in_section o) ≡ all_yes o
+raised_yes None = refl
+raised_yes (Some f) = refl
 
 -- a frame that is shown was found
 pub some_found : (o : Option ℕ) (held frame : List ℕ) → Ok frame ≡ found_frame o held → (n : ℕ) × ((o ≡ Some n) × (frame ≡ take n held))
-some_found None held frame e = never (cc)
+some_found None held frame e = cc
 some_found (Some n) held frame e = (n, (refl, cc))
 
--- the line of a shown frame
-pub shown_lined : (s : State) (out frame : List ℕ) → Ok frame ≡ found_frame s.found s.held → (lined s out ≡ raised (frame_lined frame out)) × (lined_buffer s out ≡ frame_buffer frame out)
-shown_lined s out frame e =
+-- a shown frame that opens is an ensemble
+pub opened_found : (s : State) (frame : List ℕ) → Ok frame ≡ found_frame s.found s.held → opened frame ≡ Ok tt → FoundEnsemble s
+opened_found s frame e opens n some =
     let f = some_found s.found s.held frame e in
-    let g = some_lined s out f.0 f.1.0 in
-    (g.0 ∙ ap (λ zs. raised (frame_lined zs out)) (sym f.1.1), g.1 ∙ ap (λ zs. frame_buffer zs out) (sym f.1.1))
+    let same : f.0 ≡ n = let g = f.1.0 in cc in
+    subst IsEnsemble (f.1.1 ∙ ap (λ k. take k s.held) same) ((opening_laws frame).opens opens)
+
+-- what the line of a shown frame comes to: the line is written, or its fault goes up whole
+module _ (out frame : List ℕ) where
+  abbrev Comes : State → List ℕ → Type 0
+  Comes s xs = (lined s out ≡ raised (frame_lined xs out)) × (lined_buffer s out ≡ frame_buffer xs out)
+
+  comes : (held : List ℕ) (ended : Bool) (n : ℕ) → Comes (record { held = held; found = Some n; ended = ended }) (take n held)
+  comes held ended n =
+      let os = frame_questions (take n held) out in
+      let text = line_text (take n held) in
+      let first = first_raised os in (
+        ap (λ o. answered o (length text)) first ∙ raised_answer (first_fault os) (length text),
+        ap (λ o. cond (all_yes o) (written text out) out) first ∙ ap (λ t. cond t (written text out) out) (raised_yes (first_fault os)),
+      )
+
+  by_found : (o : Option ℕ) (held : List ℕ) (ended : Bool) → Ok frame ≡ found_frame o held → Comes (record { held = held; found = o; ended = ended }) frame
+  by_found None held ended e = cc
+  by_found (Some n) held ended e =
+      let same : take n held ≡ frame = cc in
+      subst (Comes (record { held = held; found = Some n; ended = ended })) same (comes held ended n)
+
+  pub shown_lined : (s : State) → Ok frame ≡ found_frame s.found s.held → (lined s out ≡ raised (frame_lined frame out)) × (lined_buffer s out ≡ frame_buffer frame out)
+  shown_lined s e = by_found s.found s.held s.ended e
+
+-- what a find finds where no frame was found is an ensemble
+pub new_ensemble : (s t : State) (r : Finding) → StopsFirst judged_run s r t → s.found ≡ None → FoundEnsemble t
+new_ensemble s t r first none n some = ((exactly_ensembles t.held n).0 (found_sound judged_run s r t n first none some)).1

@@ -1,5 +1,5 @@
 -- The call that writes the line of a receiver's found frame: what it asks, in order, and what it comes to.
-use Rattle.std.specs.Prelude.{◌≡◌, ℕ, cond, List, [], ◌∷◌, ◌++◌, map, length, take, is_some, Some, None, Option, Result, nat_le}
+use Rattle.std.specs.Prelude.{◌≡◌, ℕ, cond, List, [], ◌∷◌, ◌++◌, map, length, take, is_some, Some, None, IfOk, Option, Result, nat_le, ◌≤◌}
 use Rattle.faults.specs.Questions.{ask, first_fault, answered, all_yes}
 use Rattle.faults.specs.declared.line.LineFault.{LineFault}
 use Rattle.faults.specs.declared.line.LineFault.TheVariants.{InSection, NoFrame}
@@ -40,6 +40,13 @@ frame_buffer bs out = cond (all_yes (first_fault (frame_questions bs out))) (wri
 
 abbrev pub lined_buffer : State → List ℕ → List ℕ
 lined_buffer s out = cond (all_yes (first_fault (line_questions s out))) (written (line_text (found_bytes s)) out) out
+
+-- What a call that writes the line of a receiver's found frame comes to: its answer, what the buffer holds then, and that no
+-- more is written than the buffer has.
+pub record IsLined (s : State) (old : List ℕ) (answer : Result ℕ LineFault) (new : List ℕ) : Type 0 where
+  pub value : answer ≡ lined s old
+  pub buffer : new ≡ lined_buffer s old
+  pub bound : IfOk answer (λ n. n ≤ length old)
 
 -- the found frame, where there is one, is an ensemble
 abbrev pub FoundEnsemble : State → Type 0

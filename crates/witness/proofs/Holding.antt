@@ -9,7 +9,7 @@ use Rattle.receiver.specs.Promise.{NoneInside, PassedAt, Latest, IsWanting}
 use Rattle.receiver.proofs.Promises.{has_promise}
 use Rattle.witness.specs.Premises.{BothEnough, OverEnough}
 use Rattle.witness.specs.Records.{first_record, second_record, third_record, ended_record, first_joint, second_joint, third_joint}
-use Rattle.witness.specs.Witness.{drained, BothWith, BothMet, OverMet, AllHavePassed, OverlapCosts}
+use Rattle.witness.specs.Witness.{drained, BothWith, BothMet, OverMet, OverlapCosts}
 use Rattle.witness.proofs.Marks.{bytes_from, agree_from, marks_from, none_inside}
 
 first_run : Run (taken first_record)
@@ -80,15 +80,12 @@ over_met law = record {
   sound = (omega arith, refl);
 }
 
-pub all_have_passed : AllHavePassed 4096
-all_have_passed = (inl refl, inl refl, inl refl, inl refl)
-
 pub overlap_costs : OverlapCosts
 overlap_costs = (inr (inl refl), inr (inl refl), lost)
   where
     lost : PassedAt third_record third_joint longest_size → ⊥
-    lost (inl e) = let f : ◌≡◌ {A = ℕ} 200 4296 = ap (λ (f : Span). f.start) e in omega arith
-    lost (inr (inl e)) = let f : ◌≡◌ {A = ℕ} 200 0 = ap (λ (f : Span). f.start) e in omega arith
+    lost (inl e) = omega (arith, ap (λ (f : Span). f.start) e)
+    lost (inr (inl e)) = omega (arith, ap (λ (f : Span). f.start) e)
     lost (inr (inr e)) = e
 
 pub both_enough : BothEnough

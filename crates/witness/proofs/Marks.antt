@@ -7,7 +7,7 @@ use Rattle.pd0.specs.Ensembles.{IsEnsemble}
 use Rattle.pd0.specs.Layout.{mark, size_of}
 use Rattle.pd0.specs.Questions.{longest_size}
 use Rattle.pd0.specs.Verdicts.{judged_run}
-use Rattle.pd0.proofs.Sounds.{exactly_ensembles}
+use Rattle.pd0.specs.Sounds.{exactly_ensembles}
 use Rattle.receiver.specs.Promise.{SoundAt, NoneInside, Agree}
 
 -- each element is a byte, as a test

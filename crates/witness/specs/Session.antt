@@ -1,6 +1,6 @@
 -- The records of the caller: rounds of feed, find and pass.
-use Rattle.std.specs.Prelude.{ℕ, ◌+◌, ◌^◌, ◌<◌, List, [], ◌∷◌, length, drop, Ok, Err, Result}
-use Rattle.faults.specs.declared.line.LineFault.{LineFault}
+use Rattle.std.specs.Result.{result_unwrap_or}
+use Rattle.std.specs.Prelude.{ℕ, ◌+◌, ◌^◌, ◌<◌, List, [], ◌∷◌, length, drop}
 use Rattle.framing.specs.declared.verdict.Verdict.{Verdict}
 use Rattle.receiver.specs.State.{State}
 use Rattle.receiver.specs.Rule.{feeds, finds, passes}
@@ -8,11 +8,6 @@ use Rattle.receiver.specs.Record.{Record, taken, Led}
 use Rattle.receiver.specs.Promise.{Promise}
 use Rattle.witness.specs.declared.Heard.{Heard}
 use Rattle.witness.specs.declared.Round.{Round}
-
--- how many bytes a feed took, by its answer
-abbrev pub taken_of : Result ℕ LineFault → ℕ
-taken_of (Ok n) = n
-taken_of (Err f) = 0
 
 -- a record with a round more, in which these bytes were fed
 abbrev pub with_round : List ℕ → Round → Record → Record
@@ -25,4 +20,4 @@ PromisedRound judged longest s fed r t =
 
 -- the record of two rounds, the second with what the first did not take, and of a find
 abbrev pub record_of : List ℕ → Heard → Record
-record_of line h = finds h.last ∷ with_round (drop (taken_of h.first.fed) line) h.second (with_round line h.first [])
+record_of line h = finds h.last ∷ with_round (drop (result_unwrap_or h.first.fed 0) line) h.second (with_round line h.first [])

@@ -2,14 +2,15 @@
 // and a caller has it by chaining the calls' contracts.
 #![tactic(auto)]
 
-ghost use Rattle.std.specs.Prelude.{◌≡◌, ◌≤◌, length, drop};
+ghost use Rattle.std.specs.Prelude.{◌≡◌, ◌≤◌, length};
+ghost use Rattle.std.specs.Result.{result_unwrap_or};
 ghost use Rattle.framing.specs.Laws.{Lawful};
 ghost use Rattle.receiver.specs.State.{capacity};
 ghost use Rattle.receiver.specs.View.{view};
 ghost use Rattle.receiver.specs.Promise.{Promise, BothPassed};
 ghost use Rattle.witness.specs.Premises.{BothEnough, OverEnough};
 ghost use Rattle.witness.specs.Witness.{BothMet, OverMet, AllHavePassed, OverlapCosts};
-ghost use Rattle.witness.specs.Session.{taken_of, PromisedRound, record_of};
+ghost use Rattle.witness.specs.Session.{PromisedRound, record_of};
 
 use faults::line::LineFault;
 use framing::framing::Framing;
@@ -68,22 +69,12 @@ pub struct Heard {
 // Feeds, finds and passes.
 fn listen_once<F: Framing>(receiver: &mut Receiver, framing: &F, bytes: &[u8]) -> Round
     ensures promise { F.Framing.reach framing.now ≤ capacity → PromisedRound (F.Framing.judged framing.now) (F.Framing.reach framing.now) (view receiver.old) bytes.now result (view receiver.new) }
-    ensures bound { taken_of result.fed ≤ length bytes.now }
+    ensures bound { result_unwrap_or result.fed 0 ≤ length bytes.now }
 {
-    let fed = receiver.feed(bytes);
-    let found = receiver.find(framing);
-    let passed = receiver.pass();
-    Round { fed, found, passed }
-}
-
-// The bytes that a feed did not take.
-fn rest<'a>(bytes: &'a [u8], fed: &Result<usize, LineFault>) -> &'a [u8]
-    requires { taken_of fed.now ≤ length bytes.now }
-    ensures { result.now ≡ drop (taken_of fed.now) bytes.now }
-{
-    match fed {
-        Ok(count) => &bytes[*count..],
-        Err(_) => bytes,
+    Round {
+        fed: receiver.feed(bytes),
+        found: receiver.find(framing),
+        passed: receiver.pass(),
     }
 }
 
@@ -93,7 +84,7 @@ fn listen<F: Framing>(framing: &F, bytes: &[u8]) -> Heard
 {
     let mut receiver = Receiver::new();
     let first = listen_once(&mut receiver, framing, bytes);
-    let second = listen_once(&mut receiver, framing, rest(bytes, &first.fed));
+    let second = listen_once(&mut receiver, framing, &bytes[first.fed.unwrap_or(0)..]);
     let last = receiver.find(framing);
     Heard {
         receiver,

@@ -22,9 +22,7 @@ mod ensembles {
         if bytes.len() < 2 || at > bytes.len() - 2 {
             return;
         }
-        let stored = value.to_le_bytes();
-        bytes[at] = stored[0];
-        bytes[at + 1] = stored[1];
+        bytes[at..at + 2].copy_from_slice(&value.to_le_bytes());
     }
 
     // Writes the checksum over all bytes before it.
@@ -33,28 +31,35 @@ mod ensembles {
             return;
         }
         let n = bytes.len() - 2;
-        let sum = checksum(&bytes[0..n]);
+        let sum = checksum(&bytes[..n]);
         put(bytes, n, sum);
     }
 
     // Makes zero bytes an ensemble: the header, the table of offsets, each
     // section's identification, the number of cells, and the checksum. Sizes that
     // no test needs are left as zeros, which no test takes for an ensemble.
-    pub(crate) fn lay(bytes: &mut [u8], sections: &[(u16, u16)], cells: u8) {
-        if bytes.len() < 131 || bytes.len() > 5000 || sections.len() < 2 || sections.len() > 17 {
+    fn lay(bytes: &mut [u8], sections: &[(u16, u16)], cells: u8) {
+        if !(131..=5000).contains(&bytes.len()) || !(2..=17).contains(&sections.len()) {
             return;
         }
         put(bytes, 0, 0x7f7f);
         let counted = bytes.len() as u16 - 2;
         put(bytes, 2, counted);
         bytes[5] = sections.len() as u8;
-        for k in 0..sections.len() {
-            let (offset, identification) = sections[k];
+        for (k, (offset, identification)) in sections.iter().copied().enumerate() {
             put(bytes, 6 + 2 * k, offset);
             put(bytes, offset as usize, identification);
         }
         bytes[15 + 2 * sections.len()] = cells;
         seal(bytes);
+    }
+
+    // An ensemble of N bytes with these sections; what they have beside their
+    // identification and the number of cells are zeros.
+    pub(crate) fn ensemble<const N: usize>(sections: &[(u16, u16)], cells: u8) -> [u8; N] {
+        let mut bytes = [0u8; N];
+        lay(&mut bytes, sections, cells);
+        bytes
     }
 
     // Offset and identification of the sections of an ensemble: the two leaders
@@ -93,13 +98,12 @@ mod ensembles {
         (181, 0x2000),
     ];
 
-    // The number and the place of the refusal, or two zeros where there is none.
-    fn refused(bytes: &[u8]) -> (u8, u32) {
+    // Nothing where the bytes open, else the number and the place of the refusal.
+    fn opened(bytes: &[u8]) -> Result<(), (u8, u32)> {
         let mut place = Ensemble::new();
-        match place.open(bytes) {
-            Ok(()) => (0, 0),
-            Err(fault) => (fault.number(), fault.place().0),
-        }
+        place
+            .open(bytes)
+            .map_err(|fault| (fault.number(), fault.place().0))
     }
 
     // Sections, counted bytes and cells of a place that was new, and then was to
@@ -115,18 +119,15 @@ mod ensembles {
     fn section(bytes: &[u8], number: usize) -> Option<(Kind, u32, usize)> {
         let mut place = Ensemble::new();
         let _ = place.open(bytes);
-        let (Some(section), Some(first)) = (place.section(number), place.first_byte(number)) else {
-            return None;
-        };
+        let (section, first) = place.section(number).zip(place.first_byte(number))?;
         Some((section.kind(), first.0, section.bytes().len()))
     }
 
     #[test]
     fn small_ensemble(rt: HostRuntime) {
-        let mut bytes = [0u8; 131];
-        lay(&mut bytes, &LEADERS, 1);
+        let bytes = ensemble::<131>(&LEADERS, 1);
         assert_eq!(rt; (bytes[129], bytes[130]), (0x4a, 0x02));
-        assert_eq!(rt; refused(&bytes), (0, 0));
+        assert_eq!(rt; opened(&bytes), Ok(()));
         assert_eq!(rt; held(&bytes, &bytes), (2, 129, 1));
         assert_eq!(rt; section(&bytes, 0), None);
         assert_eq!(rt; section(&bytes, 1), Some((Kind::FixedLeader, 11, 52)));
@@ -139,11 +140,10 @@ mod ensembles {
 
     #[test]
     fn damaged_last_byte(rt: HostRuntime) {
-        let mut bytes = [0u8; 131];
-        lay(&mut bytes, &LEADERS, 1);
+        let bytes = ensemble::<131>(&LEADERS, 1);
         let mut damaged = bytes;
         damaged[130] = 0x03;
-        assert_eq!(rt; refused(&damaged), (6, 130));
+        assert_eq!(rt; opened(&damaged), Err((6, 130)));
         assert_eq!(rt; Pd0.judge(&damaged), Verdict::Unfit);
         assert_eq!(rt;
             held(&damaged, &damaged),
@@ -159,43 +159,36 @@ mod ensembles {
 
     #[test]
     fn cell_counts(rt: HostRuntime) {
-        let mut most = [0u8; 131];
-        lay(&mut most, &LEADERS, 128);
+        let most = ensemble::<131>(&LEADERS, 128);
         assert_eq!(rt; held(&most, &most), (2, 129, 128));
-        let mut more = [0u8; 131];
-        lay(&mut more, &LEADERS, 129);
-        assert_eq!(rt; refused(&more), (9, 11));
+        let more = ensemble::<131>(&LEADERS, 129);
+        assert_eq!(rt; opened(&more), Err((9, 11)));
     }
 
     #[test]
     fn counted_bytes(rt: HostRuntime) {
-        let mut most = [0u8; 4096];
-        lay(&mut most, &LEADERS, 1);
+        let most = ensemble::<4096>(&LEADERS, 1);
         assert_eq!(rt; held(&most, &most), (2, 4094, 1));
-        let mut more = [0u8; 4097];
-        lay(&mut more, &LEADERS, 1);
-        assert_eq!(rt; refused(&more), (4, 3));
+        let more = ensemble::<4097>(&LEADERS, 1);
+        assert_eq!(rt; opened(&more), Err((4, 3)));
     }
 
     #[test]
     fn section_counts(rt: HostRuntime) {
-        let mut one = [0u8; 131];
-        lay(&mut one, &LEADERS, 1);
+        let mut one = ensemble::<131>(&LEADERS, 1);
         one[5] = 1;
-        assert_eq!(rt; refused(&one), (3, 6));
+        assert_eq!(rt; opened(&one), Err((3, 6)));
         let mut seventeen = one;
         seventeen[5] = 17;
-        assert_eq!(rt; refused(&seventeen), (3, 6));
-        let mut sixteen = [0u8; 187];
-        lay(&mut sixteen, &SIXTEEN, 1);
+        assert_eq!(rt; opened(&seventeen), Err((3, 6)));
+        let sixteen = ensemble::<187>(&SIXTEEN, 1);
         assert_eq!(rt; held(&sixteen, &sixteen), (16, 185, 1));
         assert_eq!(rt; section(&sixteen, 16), Some((Kind::Unnamed, 182, 2)));
     }
 
     #[test]
     fn seven_sections(rt: HostRuntime) {
-        let mut bytes = [0u8; 841];
-        lay(&mut bytes, &SEVEN, 30);
+        let bytes = ensemble::<841>(&SEVEN, 30);
         assert_eq!(rt; held(&bytes, &bytes), (7, 839, 30));
         assert_eq!(rt; section(&bytes, 3), Some((Kind::Velocity, 145, 242)));
         assert_eq!(rt; section(&bytes, 7), Some((Kind::BottomTrack, 753, 85)));

@@ -1,5 +1,5 @@
 // Receivers: what each find answers and drops, and what refused calls leave.
-use crate::ensembles::{LEADERS, lay};
+use crate::ensembles::{LEADERS, ensemble};
 use crate::framings::small_structure;
 use aquadopp::judging::Aquadopp;
 use faults::line::LineFault;
@@ -15,47 +15,27 @@ use std::test::Fail;
 
 // Two leaders of their least sizes, one cell, and zeros.
 fn small_ensemble() -> [u8; 131] {
-    let mut bytes = [0u8; 131];
-    lay(&mut bytes, &LEADERS, 1);
-    bytes
+    ensemble(&LEADERS, 1)
 }
 
 // The longest ensemble: what the second leader has more are zeros.
 fn longest_ensemble() -> [u8; 4096] {
-    let mut bytes = [0u8; 4096];
-    lay(&mut bytes, &LEADERS, 1);
-    bytes
+    ensemble(&LEADERS, 1)
 }
 
-fn wanting(m: usize, dropped: usize) -> Finding {
-    Finding {
-        answer: Answer::Wanting(m),
-        dropped,
-    }
-}
-
-fn frame(n: usize, dropped: usize) -> Finding {
-    Finding {
-        answer: Answer::Frame(n),
-        dropped,
-    }
-}
-
-fn over(dropped: usize) -> Finding {
-    Finding {
-        answer: Answer::Over,
-        dropped,
-    }
+// What find answers, and how many bytes it dropped before.
+fn finding(answer: Answer, dropped: usize) -> Finding {
+    Finding { answer, dropped }
 }
 
 #[test]
 fn new_receiver_wants_one_byte(rt: HostRuntime) {
     let mut receiver = Receiver::new();
-    assert_eq!(rt; receiver.find(&Pd0), wanting(1, 0));
+    assert_eq!(rt; receiver.find(&Pd0), finding(Answer::Wanting(1), 0));
     assert_eq!(rt; receiver.pass(), Err(LineFault::NoFrame));
     assert!(rt; receiver.frame().is_err());
     receiver.end();
-    assert_eq!(rt; receiver.find(&Pd0), over(0));
+    assert_eq!(rt; receiver.find(&Pd0), finding(Answer::Over, 0));
     assert_eq!(rt; receiver.feed(&[]), Err(LineFault::Ended));
 }
 
@@ -64,16 +44,16 @@ fn small_ensemble_is_found(rt: HostRuntime) -> Result<(), Fail> {
     let mut receiver = Receiver::new();
     let bytes = small_ensemble();
     assert_eq!(rt; receiver.feed(&bytes), Ok(131));
-    assert_eq!(rt; receiver.find(&Pd0), frame(131, 0));
+    assert_eq!(rt; receiver.find(&Pd0), finding(Answer::Frame(131), 0));
     assert_eq!(rt; receiver.feed(&bytes[0..7]), Ok(7));
     // a found frame is answered again, under another framing too
-    assert_eq!(rt; receiver.find(&Aquadopp), frame(131, 0));
+    assert_eq!(rt; receiver.find(&Aquadopp), finding(Answer::Frame(131), 0));
     receiver.end();
     assert_eq!(rt; receiver.frame()?.len(), 131);
     assert_eq!(rt; receiver.frame()?[129], 0x4a);
     assert_eq!(rt; receiver.pass(), Ok(131));
     assert_eq!(rt; receiver.pass(), Err(LineFault::NoFrame));
-    assert_eq!(rt; receiver.find(&Pd0), over(7));
+    assert_eq!(rt; receiver.find(&Pd0), finding(Answer::Over, 7));
     Ok(())
 }
 
@@ -83,8 +63,8 @@ fn damaged_ensemble_is_dropped(rt: HostRuntime) {
     let mut bytes = small_ensemble();
     bytes[130] = 0x03;
     assert_eq!(rt; receiver.feed(&bytes), Ok(131));
-    assert_eq!(rt; receiver.find(&Pd0), wanting(6, 126));
-    assert_eq!(rt; receiver.find(&Pd0), wanting(6, 0));
+    assert_eq!(rt; receiver.find(&Pd0), finding(Answer::Wanting(6), 126));
+    assert_eq!(rt; receiver.find(&Pd0), finding(Answer::Wanting(6), 0));
 }
 
 #[test]
@@ -92,7 +72,7 @@ fn byte_before_an_ensemble_is_dropped(rt: HostRuntime) {
     let mut receiver = Receiver::new();
     assert_eq!(rt; receiver.feed(&[0x7f]), Ok(1));
     assert_eq!(rt; receiver.feed(&small_ensemble()), Ok(131));
-    assert_eq!(rt; receiver.find(&Pd0), frame(131, 1));
+    assert_eq!(rt; receiver.find(&Pd0), finding(Answer::Frame(131), 1));
 }
 
 // A head that claims 42 bytes, and the small structure inside of these.
@@ -100,7 +80,7 @@ fn false_head(rt: &impl Abort) -> Receiver {
     let mut receiver = Receiver::new();
     assert_eq!(rt; receiver.feed(&[0xa5, 0x01, 0x15, 0x00]), Ok(4));
     assert_eq!(rt; receiver.feed(&small_structure()), Ok(36));
-    assert_eq!(rt; receiver.find(&Aquadopp), wanting(42, 0));
+    assert_eq!(rt; receiver.find(&Aquadopp), finding(Answer::Wanting(42), 0));
     receiver
 }
 
@@ -108,10 +88,10 @@ fn false_head(rt: &impl Abort) -> Receiver {
 fn structure_inside_a_false_claim_is_found(rt: HostRuntime) {
     let mut receiver = false_head(&rt);
     assert_eq!(rt; receiver.feed(&[0x00, 0x00]), Ok(2));
-    assert_eq!(rt; receiver.find(&Aquadopp), frame(36, 4));
+    assert_eq!(rt; receiver.find(&Aquadopp), finding(Answer::Frame(36), 4));
     let mut receiver = false_head(&rt);
     receiver.end();
-    assert_eq!(rt; receiver.find(&Aquadopp), frame(36, 4));
+    assert_eq!(rt; receiver.find(&Aquadopp), finding(Answer::Frame(36), 4));
 }
 
 #[test]
@@ -122,15 +102,15 @@ fn pair_waits_for_its_first(rt: HostRuntime) {
         first: Pd0,
         second: Aquadopp,
     };
-    assert_eq!(rt; receiver.find(&pair), wanting(6, 0));
+    assert_eq!(rt; receiver.find(&pair), finding(Answer::Wanting(6), 0));
 }
 
 // Feeds one byte after another, with refused calls between, and expects no
 // frame before the last.
 fn feed_singly(rt: &impl Abort, receiver: &mut Receiver, bytes: &[u8]) {
-    for i in 0..bytes.len() {
+    for (i, byte) in bytes.chunks(1).enumerate() {
         assert_eq!(rt; receiver.pass(), Err(LineFault::NoFrame));
-        assert_eq!(rt; receiver.feed(&bytes[i..i + 1]), Ok(1));
+        assert_eq!(rt; receiver.feed(byte), Ok(1));
         assert!(rt; receiver.frame().is_err());
         let finding = receiver.find(&Pd0);
         assert_eq!(rt; finding.dropped, 0);
@@ -150,11 +130,6 @@ fn longest_ensembles_come_byte_by_byte(rt: HostRuntime) -> Result<(), Fail> {
     Ok(())
 }
 
-// What stands at the front of a buffer.
-fn begins(buffer: &[u8], text: &[u8]) -> bool {
-    buffer.starts_with(text)
-}
-
 #[test]
 fn line_of_the_small_ensemble(rt: HostRuntime) {
     let mut receiver = Receiver::new();
@@ -162,32 +137,24 @@ fn line_of_the_small_ensemble(rt: HostRuntime) {
     assert_eq!(rt; line(&receiver, &mut out), Err(LineFault::NoFrame));
     assert_eq!(rt; receiver.feed(&small_ensemble()), Ok(131));
     let listed = find_line(&mut receiver, &mut out);
-    assert_eq!(rt; listed.finding, frame(131, 0));
+    assert_eq!(rt; listed.finding, finding(Answer::Frame(131), 0));
     assert_eq!(rt; listed.line, Ok(8));
-    assert!(rt; begins(&out, b"0 131 2\n\xee"));
+    assert!(rt; out.starts_with(b"0 131 2\n\xee"));
     let mut short = [0xee; 7];
     let refused = line(&receiver, &mut short);
     assert_eq!(rt; refused, Err(LineFault::InSection(SectionFault::Space)));
-    assert!(rt; begins(&short, &[0xee; 7]));
+    assert!(rt; short.starts_with(&[0xee; 7]));
 }
 
 #[test]
-fn line_of_what_is_no_ensemble(rt: HostRuntime) -> Result<(), Fail> {
+fn line_of_what_is_no_ensemble(rt: HostRuntime) {
     let mut receiver = Receiver::new();
     let mut out = [0xee; 20];
     assert_eq!(rt; receiver.feed(&small_structure()), Ok(36));
-    assert_eq!(rt; receiver.find(&Aquadopp), frame(36, 0));
+    assert_eq!(rt; receiver.find(&Aquadopp), finding(Answer::Frame(36), 0));
     let refused = line(&receiver, &mut out);
     assert_eq!(rt; refused, find_line(&mut receiver, &mut out).line);
-    assert!(rt; begins(&out, &[0xee; 20]));
-    match refused {
-        Ok(_) => {
-            assert!(rt; false);
-            Ok(())
-        },
-        Err(fault) => {
-            assert_eq!(rt; (fault.number(), fault.place().0), (2, 1));
-            Ok(())
-        },
-    }
+    assert!(rt; out.starts_with(&[0xee; 20]));
+    let told = refused.map_err(|fault| (fault.number(), fault.place().0));
+    assert_eq!(rt; told, Err((2, 1)));
 }

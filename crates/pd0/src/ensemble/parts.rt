@@ -1,16 +1,19 @@
-ghost use Rattle.std.specs.Prelude.{◌≡◌, ◌+◌, ◌<◌, ◌≤◌, length};
+ghost use Rattle.std.specs.Prelude.{◌≡◌, ◌<◌};
 ghost use Rattle.pd0.specs.Held.{held};
-ghost use Rattle.pd0.specs.Layout.{count_of, size_of, spare_of, cells_of, reserved_of, offset, ending};
+ghost use Rattle.pd0.specs.Layout.{count_of, size_of, spare_of, cells_of, reserved_of};
 ghost use Rattle.pd0.specs.Sections.{SectionAt, FirstByteAt};
 
 use crate::ensemble::Ensemble;
+use crate::frame::Frame;
 use crate::header::{SIZE, SPARE, TABLE};
 use crate::kind::Kind;
 use crate::section::Section;
 use crate::sections::CELLS;
 use crate::stored::{byte, word};
+use crate::table::Table;
 use faults::place::ByteNumber;
 
+// A new place has no bytes: what is read of it by `word` and `byte` is 0.
 impl<'a> Ensemble<'a> {
     // The bytes that were opened, none in a new place.
     pub fn bytes(&self) -> &'a [u8]
@@ -39,14 +42,14 @@ impl<'a> Ensemble<'a> {
         ensures { result ≡ cells_of (held self.now) }
     {
         let leader = word(self.bytes, TABLE) as usize;
-        byte(self.bytes, leader + CELLS.0 as usize)
+        byte(self.bytes, leader + usize::from(CELLS))
     }
 
     // The spare byte of the header, 0 in a new place.
     pub fn spare(&self) -> u8
         ensures { result ≡ spare_of (held self.now) }
     {
-        byte(self.bytes, SPARE.0 as usize)
+        byte(self.bytes, usize::from(SPARE))
     }
 
     // The two reserved bytes before the checksum, 0 in a new place.
@@ -60,42 +63,40 @@ impl<'a> Ensemble<'a> {
         [byte(self.bytes, first), byte(self.bytes, second)]
     }
 
-    // Where section `k`, counted from 0, ends.
-    fn end(&self, k: usize) -> usize
-        requires { k < self.now.count }
-        ensures value { result ≡ ending (held self.now) self.now.count (size_of (held self.now)) k }
-        ensures bound { (offset (held self.now) k + 2 ≤ result) × (result + 4 ≤ length (held self.now)) }
+    // The table of offsets, where the place holds sections.
+    fn table(&self) -> Table<'a>
+        requires { 0 < self.now.count }
+        ensures { (result.frame.bytes.now ≡ held self.now) × (result.frame.count ≡ self.now.count) × (result.frame.size ≡ size_of (held self.now)) }
     {
-        // the reserved bytes and the checksum follow the last section
-        let last = self.bytes.len() - 4;
-        if k + 1 == self.count {
-            last
-        } else {
-            self.offsets[k + 1].0 as usize
-        }
+        let frame = Frame {
+            bytes: self.bytes,
+            count: self.count,
+            size: self.counted_bytes(),
+        };
+        Table { frame }
     }
 
     // The section of a number from 1.
     pub fn section(&self, number: usize) -> Option<Section<'a>>
         ensures { SectionAt (held self.now) number result }
     {
-        if number == 0 || number > self.count {
+        if !(1..=self.count).contains(&number) {
             return None;
         }
-        let bytes = self.bytes;
-        let start = self.offsets[number - 1];
-        let end = self.end(number - 1);
-        let kind = Kind::of(word(bytes, start));
-        Some(Section::of(kind, &bytes[start.0 as usize..end]))
+        let table = self.table();
+        let k = number - 1;
+        let kind = Kind::from(table.identification(k));
+        let start = usize::from(table.start(k));
+        Some(Section::of(kind, &self.bytes[start..table.end(k)]))
     }
 
     // The byte number where the section of a number from 1 begins.
     pub fn first_byte(&self, number: usize) -> Option<ByteNumber>
         ensures { FirstByteAt (held self.now) number result }
     {
-        if number == 0 || number > self.count {
+        if !(1..=self.count).contains(&number) {
             return None;
         }
-        Some(self.offsets[number - 1].into())
+        Some(self.table().start(number - 1).into())
     }
 }

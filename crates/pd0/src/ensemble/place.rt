@@ -1,27 +1,13 @@
-ghost use Rattle.std.specs.Prelude.{◌≡◌, ◌≤◌, [], Ok, MatchResult};
+ghost use Rattle.std.specs.Prelude.{◌≡◌, [], Ok, MatchResult};
 ghost use Rattle.faults.specs.Questions.{answered, first_fault};
 ghost use Rattle.pd0.specs.Held.{held};
-ghost use Rattle.pd0.specs.Invariant.{Kept};
 ghost use Rattle.pd0.specs.Ensembles.{OpeningLaws};
-ghost use Rattle.pd0.specs.Questions.{header_of, questions, opened, most_sections};
+ghost use Rattle.pd0.specs.Questions.{header_of, questions, opened};
 
 use crate::check::check;
 use crate::ensemble::Ensemble;
-use crate::header::{Header, MOST_SECTIONS, offset_at};
-use faults::place::Offset;
+use crate::header::Header;
 use faults::section::SectionFault;
-
-// The first `count` offsets.
-fn offsets_of(bytes: &[u8], count: usize) -> [Offset; MOST_SECTIONS]
-    requires { count ≤ most_sections }
-    ensures { Kept bytes.now count result }
-{
-    let mut offsets = [Offset(0); MOST_SECTIONS];
-    for k in 0..count {
-        offsets[k] = offset_at(bytes, k);
-    }
-    offsets
-}
 
 impl<'a> Ensemble<'a> {
     // A new place, which holds no section.
@@ -31,7 +17,6 @@ impl<'a> Ensemble<'a> {
         Ensemble {
             bytes: &[],
             count: 0,
-            offsets: [Offset(0); MOST_SECTIONS],
         }
     }
 
@@ -40,10 +25,8 @@ impl<'a> Ensemble<'a> {
         requires { Ok header ≡ answered (first_fault (questions bytes.now)) (header_of bytes.now) }
         ensures { held self.new ≡ bytes.now }
     {
-        let offsets = offsets_of(bytes, header.count);
         self.bytes = bytes;
         self.count = header.count;
-        self.offsets = offsets;
     }
 
     // Fills the place with the ensemble that the bytes are, or refuses and

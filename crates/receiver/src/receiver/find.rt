@@ -1,16 +1,16 @@
 ghost use Rattle.std.specs.Prelude.{◌≡◌, ◌+◌, ◌-◌, ◌≤◌};
 ghost use Rattle.framing.specs.Laws.{Bytes};
-ghost use Rattle.receiver.specs.State.{capacity};
 ghost use Rattle.receiver.specs.View.{view};
-ghost use Rattle.receiver.specs.Rule.{consulted, turn_by, Follows, finds, StopsFirst};
-ghost use Rattle.receiver.specs.Promise.{Promised};
+ghost use Rattle.receiver.specs.Rule.{consulted, turn_of};
+ghost use Rattle.receiver.specs.Promise.{FindLeads};
 
 use crate::answer::{Answer, Finding};
 use crate::receiver::{CAPACITY, Receiver};
 use framing::framing::Framing;
 use framing::verdict::Verdict;
 
-// What find does next.
+// What find does next. An enum of its own, not a `ControlFlow` or `Result` of
+// an answer: a kept frame would have to be taken out of that by a second match.
 #[derive(Clone, Copy)]
 enum Turn {
     // The first so many held bytes are a frame.
@@ -24,7 +24,8 @@ enum Turn {
 }
 
 impl Receiver {
-    // The held bytes.
+    // The held bytes. That they are bytes stands in three contracts: without it
+    // the proof of a loop that changes the receiver does not close.
     pub(crate) fn held(&self) -> &[u8]
         ensures value { result.now ≡ (view self.now).held }
         ensures octets { Bytes (view self.now).held }
@@ -39,16 +40,17 @@ impl Receiver {
         ensures octets { Bytes (view self.now).held }
     {
         let held = self.held();
-        if self.found.is_some() || held.len() == 0 {
-            return None;
+        if self.found.is_some() || held.is_empty() {
+            None
+        } else {
+            Some(framing.judge(held))
         }
-        Some(framing.judge(held))
     }
 
     // Keep, drop or wait. A false start costs one byte, whatever length it
     // claims: a frame may begin inside of it.
     fn decide<F: Framing>(&self, framing: &F) -> Turn
-        ensures value { result ≡ turn_by self.now.found self.now.ended (consulted (F.Framing.judged framing.now) self.now.found (view self.now).held) }
+        ensures value { result ≡ turn_of (F.Framing.judged framing.now) (view self.now) }
         ensures octets { Bytes (view self.now).held }
     {
         match (self.found, self.ended, self.verdict(framing)) {
@@ -66,9 +68,7 @@ impl Receiver {
     // Drops bytes up to a frame, or until more are wanted, or none are left.
     fn search<F: Framing>(&mut self, framing: &F) -> Answer
         ensures forth { self.old.start ≤ self.new.start }
-        ensures rule { Follows (F.Framing.judged framing.now) (view self.old) (finds (record { answer = result; dropped = self.new.start - self.old.start })) (view self.new) }
-        ensures first { StopsFirst (F.Framing.judged framing.now) (view self.old) (record { answer = result; dropped = self.new.start - self.old.start }) (view self.new) }
-        ensures promise { F.Framing.reach framing.now ≤ capacity → Promised (F.Framing.judged framing.now) (F.Framing.reach framing.now) (view self.old) (finds (record { answer = result; dropped = self.new.start - self.old.start })) (view self.new) }
+        ensures leads { FindLeads (F.Framing.judged framing.now) (F.Framing.reach framing.now) (view self.old) (record { answer = result; dropped = self.new.start - self.old.start }) (view self.new) }
     {
         loop {
             match self.decide(framing) {
@@ -86,9 +86,7 @@ impl Receiver {
     // Finds the next frame by this framing: keeps a frame at the front, waits
     // for more bytes, or drops the front byte and looks again.
     pub fn find<F: Framing>(&mut self, framing: &F) -> Finding
-        ensures rule { Follows (F.Framing.judged framing.now) (view self.old) (finds result) (view self.new) }
-        ensures first { StopsFirst (F.Framing.judged framing.now) (view self.old) result (view self.new) }
-        ensures promise { F.Framing.reach framing.now ≤ capacity → Promised (F.Framing.judged framing.now) (F.Framing.reach framing.now) (view self.old) (finds result) (view self.new) }
+        ensures { FindLeads (F.Framing.judged framing.now) (F.Framing.reach framing.now) (view self.old) result (view self.new) }
     {
         let start = self.start;
         let answer = self.search(framing);

@@ -1,8 +1,8 @@
 ghost use Rattle.std.specs.Prelude.{◌≡◌};
 ghost use Rattle.receiver.specs.State.{fresh};
-ghost use Rattle.receiver.specs.View.{view, When};
-ghost use Rattle.receiver.specs.Rule.{FollowsAny, ends};
-ghost use Rattle.receiver.specs.Promise.{PromisedAny, PromisedNew};
+ghost use Rattle.receiver.specs.View.{view};
+ghost use Rattle.receiver.specs.Rule.{ends};
+ghost use Rattle.receiver.specs.Promise.{Leads, PromisedNew};
 
 use crate::receiver::{ROOM, Receiver};
 
@@ -21,18 +21,16 @@ impl Receiver {
         }
     }
 
-    fn set_ended(&mut self, ended: bool)
-        ensures rule { When ended (FollowsAny (view self.old) ends (view self.new)) }
-        ensures promise { When ended (PromisedAny (view self.old) ends (view self.new)) }
+    fn set_ended(&mut self)
+        ensures leads { Leads (view self.old) ends (view self.new) }
     {
-        self.ended = ended;
+        self.ended = true;
     }
 
     // Ends the receiver: no more bytes are taken. A second end changes nothing.
     pub fn end(&mut self)
-        ensures rule { FollowsAny (view self.old) ends (view self.new) }
-        ensures promise { PromisedAny (view self.old) ends (view self.new) }
+        ensures leads { Leads (view self.old) ends (view self.new) }
     {
-        self.set_ended(true);
+        self.set_ended();
     }
 }

@@ -1,8 +1,14 @@
-use Rattle.std.proofs.Common.{refl}
-use Rattle.witness.proofs.Holding.{both_met, over_met, all_have_passed, overlap_costs, both_enough, over_enough}
+use Rattle.witness.proofs.Holding.{both_met, over_met, overlap_costs, both_enough, over_enough}
 use Rattle.witness.proofs.distance.Goals as goal
 
-pub returns : goal.returns
-returns c =
-    let law = c.keeps_laws.ensures in
-    record { value = refl; both = both_met law; over = over_met law; passed = all_have_passed; costs = overlap_costs; enough = (both_enough, over_enough) }
+pub returns-clause-both : goal.returns-clause-both
+returns-clause-both c = both_met c.keeps_laws.ensures
+
+pub returns-clause-over : goal.returns-clause-over
+returns-clause-over c = over_met c.keeps_laws.ensures
+
+pub returns-clause-costs : goal.returns-clause-costs
+returns-clause-costs c = overlap_costs
+
+pub returns-clause-enough : goal.returns-clause-enough
+returns-clause-enough c = (both_enough, over_enough)

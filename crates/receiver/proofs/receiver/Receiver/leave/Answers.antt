@@ -1,21 +1,15 @@
-use Rattle.std.proofs.Common.{ℕ, List, sym, refl, arith}
-use Rattle.framing.specs.declared.verdict.Verdict.{Verdict}
+use Rattle.std.proofs.Common.{◌≡◌, None, Some, sym, arith}
 use Rattle.receiver.specs.View.{view}
-use Rattle.receiver.proofs.Buffer.{stretch_rest}
-use Rattle.receiver.proofs.Promises.{promised_quiet}
+use Rattle.receiver.proofs.Buffer.{drop-slice_range}
 use Rattle.receiver.proofs.Steps.{passes_some, passes_none}
 use Rattle.receiver.proofs.receiver.Receiver.leave.Goals as goal
 
-pub returns-in-Some : goal.returns-in-Some
-returns-in-Some c =
+pub returns-clause-leads : goal.returns-clause-leads
+returns-clause-leads c =
     let r = c.args.self.now in
-    let n = c.in-Some.n in
-    let e = sym (stretch_rest r.bytes r.start r.end n (omega arith)) in
-    let by = λ (J : List ℕ → Verdict). passes_some J (view r) n _ c.in-Some.is e in
-    record { rule = by; promise = promised_quiet (view r) _ _ refl by; kept = tt }
+    let n = c.in_ok-n.n in
+    let e : r.found ≡ Some n = cc in
+    rw c.take.ensures.after (passes_some (view r) n _ e (sym (drop-slice_range r.bytes r.start r.end n (omega arith))))
 
-pub returns-in-None : goal.returns-in-None
-returns-in-None c =
-    let s = view c.args.self.now in
-    let by = λ (J : List ℕ → Verdict). passes_none J s c.in-None.is in
-    record { rule = by; promise = promised_quiet s s _ refl by; kept = refl }
+pub returns-in_err-n-clause-leads : goal.returns-in_err-n-clause-leads
+returns-in_err-n-clause-leads c = let e : c.args.self.now.found ≡ None = cc in rw (c.from_residual.ensures, c.take.ensures.after) (passes_none (view c.args.self.now) e)
