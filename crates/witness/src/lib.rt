@@ -66,7 +66,8 @@ pub struct Heard {
     pub last: Finding,
 }
 
-// Feeds, finds and passes.
+// Feeds, finds and passes. Here and below the promise has its premise, that the
+// framing's longest fits, in each contract: under a name it could not be read.
 fn listen_once<F: Framing>(receiver: &mut Receiver, framing: &F, bytes: &[u8]) -> Round
     ensures promise { F.Framing.reach framing.now ≤ capacity → PromisedRound (F.Framing.judged framing.now) (F.Framing.reach framing.now) (view receiver.old) bytes.now result (view receiver.new) }
     ensures bound { result_unwrap_or result.fed 0 ≤ length bytes.now }
