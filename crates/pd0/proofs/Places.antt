@@ -61,7 +61,7 @@ module _ (bs : List ℕ) (s : IsEnsemble bs) where
       let e : offset bs 0 + leader_size ≤ offset bs 1 = grind (arith, nat_tests) in
       (s.cells.0, s.cells.1, omega arith)
 
--- the place again, as a frame with a right table of offsets
+-- the place again, as bytes with a right header and a right table of offsets
 module _ (bs : List ℕ) (d n : ℕ) (counted : d ≡ count_of bs) (sized : n ≡ size_of bs) (opens : Opens bs d) (some : 0 < d) where
   held_ensemble : IsEnsemble bs
   held_ensemble = (opening_laws bs).opens (yes_answer (first_fault (questions bs)) tt (opens some))

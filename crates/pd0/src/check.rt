@@ -4,7 +4,7 @@ ghost use Rattle.faults.specs.Questions.{answered, first_fault};
 ghost use Rattle.pd0.specs.Ensembles.{OpeningLaws};
 ghost use Rattle.pd0.specs.Questions.{header_of, to_table, frame_questions, questions};
 
-use crate::frame::Frame;
+use crate::claim::Claim;
 use crate::header::{Header, entry, read_header};
 use crate::kind::LEADER_SIZE;
 use crate::sections::{CELLS, MOST_CELLS};
@@ -18,23 +18,23 @@ use faults::section::SectionFault;
 #[tactic(auto, using(crate::specs::Tables::tabled_from))]
 fn check_table(bytes: &[u8]) -> Result<Table, FrameFault>
     ensures value { result_err result ≡ first_fault (to_table bytes.now) }
-    ensures same { IfOk result (λ t. t.frame.bytes.now ≡ bytes.now) }
+    ensures same { IfOk result (λ t. t.claim.bytes.now ≡ bytes.now) }
 {
     let header = read_header(bytes)?;
-    let frame = Frame::new(bytes, header).ok_or(FrameFault::Length)?;
-    if !frame.is_sealed() {
-        return Err(FrameFault::Checksum(Offset(frame.size as u16).into()));
+    let claim = Claim::new(bytes, header).ok_or(FrameFault::Length)?;
+    if !claim.is_sealed() {
+        return Err(FrameFault::Checksum(Offset(claim.size as u16).into()));
     }
-    match frame.wrong_offset() {
+    match claim.wrong_offset() {
         Some(k) => Err(FrameFault::OffsetTable(entry(k).into())),
-        None => Ok(Table { frame }),
+        None => Ok(Table { claim }),
     }
 }
 
 // Asks every question of the frame.
 fn check_frame(bytes: &[u8]) -> Result<Table, FrameFault>
     ensures value { result_err result ≡ first_fault (frame_questions bytes.now) }
-    ensures same { IfOk result (λ t. t.frame.bytes.now ≡ bytes.now) }
+    ensures same { IfOk result (λ t. t.claim.bytes.now ≡ bytes.now) }
 {
     let table = check_table(bytes)?;
     match table.wrong_order() {
@@ -60,7 +60,7 @@ fn ask_in_order(bytes: &[u8]) -> Result<Header, SectionFault>
     if let Some(k) = table.wrong_size(cells) {
         return Err(SectionFault::TooShort(table.start(k).into()));
     }
-    let Frame { count, size, .. } = table.frame;
+    let Claim { count, size, .. } = table.claim;
     Ok(Header { count, size })
 }
 

@@ -3,8 +3,8 @@
 #![tactic(auto)]
 
 mod check;
+mod claim;
 pub mod ensemble;
-mod frame;
 mod header;
 pub mod judging;
 pub mod kind;

@@ -4,12 +4,12 @@ ghost use Rattle.pd0.specs.Layout.{offset, ident, ending, section_size};
 ghost use Rattle.pd0.specs.Questions.{wrong_offset};
 ghost use Rattle.pd0.specs.Table.{Tabled};
 
-use crate::frame::Frame;
+use crate::claim::Claim;
 use crate::header::HEADER_SIZE;
 use crate::stored::word_inside;
 use faults::place::Offset;
 
-impl Frame<'_> {
+impl Claim<'_> {
     // Whether offset `k` breaks the table.
     fn is_wrong_offset(&self, k: usize) -> bool
         requires { k < self.now.count }
@@ -36,47 +36,47 @@ impl Frame<'_> {
     }
 }
 
-// A frame of which every offset is right. That a section's number is below the
-// count is asked at each call: a type for such numbers would have to name the
+// Such bytes, of which every offset is right too. That a section's number is below
+// the count is asked at each call: a type for such numbers would have to name the
 // table that it counts in.
 #[derive(Clone, Copy)]
 pub(crate) struct Table<'a> {
-    pub frame: Frame<'a>,
-    ghost tabled: { Tabled frame.bytes.now frame.count frame.size },
+    pub claim: Claim<'a>,
+    ghost tabled: { Tabled claim.bytes.now claim.count claim.size },
 }
 
 impl Table<'_> {
     // Where section `k`, counted from 0, begins.
     pub(crate) fn start(&self, k: usize) -> Offset
-        requires { k < self.now.frame.count }
-        ensures value { result.0 ≡ offset self.now.frame.bytes.now k }
-        ensures bound { result.0 + 4 ≤ self.now.frame.size }
+        requires { k < self.now.claim.count }
+        ensures value { result.0 ≡ offset self.now.claim.bytes.now k }
+        ensures bound { result.0 + 4 ≤ self.now.claim.size }
     {
-        self.frame.offset(k)
+        self.claim.offset(k)
     }
 
     // Where section `k` ends.
     pub(crate) fn end(&self, k: usize) -> usize
-        requires { k < self.now.frame.count }
-        ensures value { result ≡ ending self.now.frame.bytes.now self.now.frame.count self.now.frame.size k }
-        ensures bound { (offset self.now.frame.bytes.now k + 2 ≤ result) × (result + 2 ≤ self.now.frame.size) }
+        requires { k < self.now.claim.count }
+        ensures value { result ≡ ending self.now.claim.bytes.now self.now.claim.count self.now.claim.size k }
+        ensures bound { (offset self.now.claim.bytes.now k + 2 ≤ result) × (result + 2 ≤ self.now.claim.size) }
     {
-        self.frame.end(k)
+        self.claim.end(k)
     }
 
     // The identification of section `k`.
     pub(crate) fn identification(&self, k: usize) -> u16
-        requires { k < self.now.frame.count }
-        ensures { result ≡ ident self.now.frame.bytes.now k }
+        requires { k < self.now.claim.count }
+        ensures { result ≡ ident self.now.claim.bytes.now k }
     {
-        word_inside(self.frame.bytes, usize::from(self.start(k)))
+        word_inside(self.claim.bytes, usize::from(self.start(k)))
     }
 
     // The size of section `k`.
     pub(crate) fn section_size(&self, k: usize) -> usize
-        requires { k < self.now.frame.count }
-        ensures value { result ≡ section_size self.now.frame.bytes.now self.now.frame.count self.now.frame.size k }
-        ensures bound { offset self.now.frame.bytes.now k + result + 2 ≤ self.now.frame.size }
+        requires { k < self.now.claim.count }
+        ensures value { result ≡ section_size self.now.claim.bytes.now self.now.claim.count self.now.claim.size k }
+        ensures bound { offset self.now.claim.bytes.now k + result + 2 ≤ self.now.claim.size }
     {
         self.end(k) - usize::from(self.start(k))
     }

@@ -8,13 +8,13 @@ ghost use Rattle.pd0.specs.Questions.{head_questions, header_of};
 ghost use Rattle.pd0.specs.Verdicts.{whole};
 ghost use Rattle.pd0.specs.Whole.{Led, Sectioned};
 
-use crate::frame::Frame;
+use crate::claim::Claim;
 use crate::header::{HEADER_SIZE, Header};
 use crate::kind::{FIXED_LEADER, KINDS, Kind, LEADER_SIZE, VARIABLE_LEADER};
 use crate::sections::{CELLS, MOST_CELLS};
 use crate::stored::word_inside;
 
-impl Frame<'_> {
+impl Claim<'_> {
     // The number of cells, if the leaders come first and it is in range.
     fn leading_cells(&self) -> Option<u8>
         ensures { MatchOption result (Sectioned self.now.bytes.now self.now.count self.now.size → ⊥) (λ c. (c ≡ cells_of self.now.bytes.now) × Led self.now.bytes.now self.now.count self.now.size) }
@@ -95,5 +95,5 @@ pub(crate) fn is_whole(bytes: &[u8], header: Header) -> bool
     requires { Ok header ≡ answered (first_fault (head_questions bytes.now)) (header_of bytes.now) }
     ensures { result ≡ whole bytes.now }
 {
-    Frame::new(bytes, header).is_some_and(|frame| frame.is_ensemble())
+    Claim::new(bytes, header).is_some_and(|claim| claim.is_ensemble())
 }

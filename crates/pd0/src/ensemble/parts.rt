@@ -3,8 +3,8 @@ ghost use Rattle.pd0.specs.Held.{held};
 ghost use Rattle.pd0.specs.Layout.{count_of, size_of, spare_of, cells_of, reserved_of};
 ghost use Rattle.pd0.specs.Sections.{SectionAt, FirstByteAt};
 
+use crate::claim::Claim;
 use crate::ensemble::Ensemble;
-use crate::frame::Frame;
 use crate::header::{SIZE, SPARE, TABLE};
 use crate::kind::Kind;
 use crate::section::Section;
@@ -66,14 +66,14 @@ impl<'a> Ensemble<'a> {
     // The table of offsets, where the place holds sections.
     fn table(&self) -> Table<'a>
         requires { 0 < self.now.count }
-        ensures { (result.frame.bytes.now ≡ held self.now) × (result.frame.count ≡ self.now.count) × (result.frame.size ≡ size_of (held self.now)) }
+        ensures { (result.claim.bytes.now ≡ held self.now) × (result.claim.count ≡ self.now.count) × (result.claim.size ≡ size_of (held self.now)) }
     {
-        let frame = Frame {
+        let claim = Claim {
             bytes: self.bytes,
             count: self.count,
             size: self.counted_bytes(),
         };
-        Table { frame }
+        Table { claim }
     }
 
     // The section of a number from 1.

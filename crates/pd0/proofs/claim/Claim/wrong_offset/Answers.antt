@@ -1,7 +1,7 @@
 use Rattle.std.proofs.Common.{rules}
 use Rattle.pd0.specs.Questions.{wrong_offset}
 use Rattle.faults.proofs.Firsts.{least_by_find}
-use Rattle.pd0.proofs.frame.Frame.wrong_offset.Goals as goal
+use Rattle.pd0.proofs.claim.Claim.wrong_offset.Goals as goal
 
 pub returns-clause-value : goal.returns-clause-value
 returns-clause-value c =

@@ -1,6 +1,6 @@
 use Rattle.std.proofs.Common.{rules}
 use Rattle.pd0.proofs.Walks.{refuted, met_before, walked_more}
-use Rattle.pd0.proofs.frame.Frame.has_room.Goals as goal
+use Rattle.pd0.proofs.claim.Claim.has_room.Goals as goal
 
 pub returns-then-met-number : goal.returns-then-met-number
 returns-then-met-number c = search (rules, refuted, met_before)

@@ -1,6 +1,6 @@
 use Rattle.std.proofs.Common.{rules}
 use Rattle.pd0.proofs.Wholes.{wrong_sections, by_checksum}
-use Rattle.pd0.proofs.frame.Frame.is_ensemble.Goals as goal
+use Rattle.pd0.proofs.claim.Claim.is_ensemble.Goals as goal
 
 pub returns-then-has_sections : goal.returns-then-has_sections
 returns-then-has_sections c = search (rules, by_checksum)

@@ -10,20 +10,20 @@ use crate::stored::word_inside;
 use faults::place::Offset;
 use framing::checksum;
 
-// Bytes that may be a frame: they have a right header, and are as many as it
-// tells. What stands in them is still to be asked.
+// Bytes that claim to be an ensemble: they have a right header, and are as many as
+// it tells. Whether they are one is still to be asked.
 #[derive(Clone, Copy)]
-pub(crate) struct Frame<'a> {
+pub(crate) struct Claim<'a> {
     pub bytes: &'a [u8],
     pub count: usize,
     pub size: usize,
     ghost headed: { Headed bytes.now count size },
 }
 
-impl<'a> Frame<'a> {
+impl<'a> Claim<'a> {
     // The bytes with the header that was read from them, if they are as many as it
     // tells. The two travel together to here, where they become one.
-    pub(crate) fn new(bytes: &'a [u8], header: Header) -> Option<Frame<'a>>
+    pub(crate) fn new(bytes: &'a [u8], header: Header) -> Option<Claim<'a>>
         requires { Ok header ≡ answered (first_fault (head_questions bytes.now)) (header_of bytes.now) }
         ensures { MatchOption result (length bytes.now ≢ header.size + 2) (λ f. (f.bytes.now ≡ bytes.now) × (f.count ≡ header.count) × (f.size ≡ header.size)) }
     {
@@ -31,7 +31,7 @@ impl<'a> Frame<'a> {
         if bytes.len() != size + 2 {
             return None;
         }
-        Some(Frame { bytes, count, size })
+        Some(Claim { bytes, count, size })
     }
 
     // Where section `k`, counted from 0, begins.
