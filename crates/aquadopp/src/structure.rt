@@ -52,13 +52,15 @@ pub fn checksum(bytes: &[u8]) -> u16
     checksum::checksum_from(CHECKSUM_START, bytes)
 }
 
-// Whether the last two bytes are the checksum of all before them.
+// Whether the last two bytes are the checksum of all before them. By `checksum`,
+// so that what opening and judging ask for is just what that call tells.
 #[tactic(auto, unfolding(crate::specs::Structures::is_sealed))]
 fn is_sealed(bytes: &[u8]) -> bool
     requires { 2 ≤ length bytes.now }
     ensures { result ≡ is_sealed bytes.now }
 {
-    checksum::is_sealed(CHECKSUM_START, bytes)
+    let end = bytes.len() - 2;
+    checksum(&bytes[..end]) == u16::from_le_bytes([bytes[end], bytes[end + 1]])
 }
 
 // Asks every question of a structure.

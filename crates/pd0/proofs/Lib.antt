@@ -1,4 +1,5 @@
 mod KindsApart
+mod Layers
 mod Places
 mod Walks
 pub mod Wholes

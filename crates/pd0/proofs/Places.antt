@@ -1,5 +1,5 @@
 -- Bytes of which every question is answered by yes fit a place for an ensemble.
-use Rattle.std.proofs.Common.{◌≡◌, ℕ, ◌+◌, ◌-◌, ◌<◌, ◌≤◌, true, List, Ok, refl, ap, arith}
+use Rattle.std.proofs.Common.{◌≡◌, ℕ, ◌+◌, ◌-◌, ◌<◌, ◌≤◌, true, List, length, Ok, refl, ap, arith}
 use Rattle.std.proofs.lemmas.Bool.Decides.{nat_tests}
 use Rattle.faults.proofs.Asked.{yes_parts, yes_answer}
 use Rattle.faults.specs.Questions.{all_yes, answered, first_fault}
@@ -60,6 +60,10 @@ module _ (bs : List ℕ) (s : IsEnsemble bs) where
       let l = leader_size_is bs s in
       let e : offset bs 0 + leader_size ≤ offset bs 1 = grind (arith, nat_tests) in
       (s.cells.0, s.cells.1, omega arith)
+
+-- in a place that holds sections the counted bytes are all but the checksum
+pub sized : (bs : List ℕ) (d : ℕ) → Whole bs d → 0 < d → length bs - 2 ≡ size_of bs
+sized bs d whole some = omega (arith, whole some)
 
 -- the place again, as bytes with a right header and a right table of offsets
 module _ (bs : List ℕ) (d n : ℕ) (counted : d ≡ count_of bs) (sized : n ≡ size_of bs) (opens : Opens bs d) (some : 0 < d) where

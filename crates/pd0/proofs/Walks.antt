@@ -1,13 +1,13 @@
 -- The walk over the sections: what is known behind those that were right, and what a wrong one contradicts.
-use Rattle.std.proofs.Common.{◌≡◌, ℕ, ◌+◌, ◌-◌, ◌<◌, ◌≤◌, Bool, true, false, List, length, get_or, set, Decides, sym, ap, ◌∙◌, subst, ⊎_elim, arith, below_more}
-use Rattle.std.proofs.lemmas.List.{get_or-set_same, get_or-set_other, length-set}
+use Rattle.std.proofs.Common.{◌≡◌, ℕ, ◌+◌, ◌-◌, ◌<◌, ◌≤◌, Bool, true, false, List, length, get_or, set, replicate, Decides, sym, refl, ap, ◌∙◌, subst, ⊎_elim, arith, below_more}
+use Rattle.std.proofs.lemmas.List.{get_or-replicate, get_or-set_same, get_or-set_other, length-set}
 use Rattle.std.proofs.lemmas.Bool.{cases_eq, both_ways, false≢true}
 use Rattle.std.proofs.lemmas.Bool.Decides.{nat_tests}
 use Rattle.pd0.specs.declared.kind.Kind.{Kind}
-use Rattle.pd0.specs.declared.kind.Kind.TheVariants.{Unnamed}
+use Rattle.pd0.specs.declared.kind.Kind.TheVariants.{FixedLeader, Unnamed}
 use Rattle.pd0.specs.Kinds.{kind_of, kind_number, kinds, least_size, is_named}
 use Rattle.pd0.specs.Layout.{offset, ident, ending, cells_of}
-use Rattle.pd0.specs.Whole.{Sectioned}
+use Rattle.pd0.specs.Whole.{Headed, Led, Sectioned}
 use Rattle.pd0.specs.Opened.{unnamed}
 use Rattle.pd0.proofs.KindsApart.{same_ident, same_number, number_below}
 
@@ -20,6 +20,10 @@ ending_last bs d n k h = grind (arith, nat_tests)
 -- a test that says no, where the fact does not hold
 pub refuted : {P : Type 0} → (P → ⊥) → Decides false P
 refuted wrong = ((λ e. absurd (false≢true e)), (λ p. absurd (wrong p)))
+
+-- and one that says yes, where it holds
+pub confirmed : {P : Type 0} → P → Decides true P
+confirmed p = ((λ _. p), (λ _. refl))
 
 -- among kinds that were met is K
 abbrev met_at : List Bool → Kind → Bool
@@ -93,3 +97,25 @@ module _ (bs : List ℕ) (d n : ℕ) where
         let f = w.only K t in
         let u : kind_of (ident bs k) ≡ Unnamed = s.once f.0 k f.1 l (same_ident K _ _ f.2 (sym kind) f.3) in
         both_ways _ (ap is_named (kind ∙ u)) f.3
+
+  -- the walk begins, is right behind the Fixed Leader, and ends
+  walked_none : Headed bs d n → Led bs d n → Walked bs d n 0 (replicate kinds false)
+  walked_none h l =
+      record {
+        inner = λ _. omega (arith, h.room, l.first);
+        long = refl;
+        room = λ j q. absurd (omega arith);
+        inside = λ j q. absurd (omega arith);
+        once = λ j q. absurd (omega arith);
+        all = λ j q. absurd (omega arith);
+        only = λ K e. absurd (both_ways _ (get_or-replicate kinds (kind_number K) false false (number_below K)) e);
+      }
+
+  pub walked_first : Headed bs d n → Led bs d n → Walked bs d n 1 (set (replicate kinds false) 0 true)
+  walked_first h l =
+      let e = ending_next bs d n 0 (omega (arith, h.some)) in
+      walked_more 0 (replicate kinds false) (walked_none h l) FixedLeader (sym l.leaders.0) refl (omega (arith, h.some))
+      (omega (arith, e, l.second.1)) (omega (arith, e, l.second.0))
+
+  pub walked_all : (met : List Bool) → Walked bs d n d met → Led bs d n → Sectioned bs d n
+  walked_all met w l = record { led = l; room = w.room; inside = w.inside; once = λ i j p q. w.once j q i p }

@@ -1,5 +1,5 @@
 -- An ensemble is a right header, right sections and a right checksum.
-use Rattle.std.proofs.Common.{◌≡◌, ◌≢◌, ℕ, ◌+◌, ◌-◌, ◌<◌, ◌≤◌, false, eqb, List, length, take, Ok, Err, Decides, sym, ap, ◌∙◌, arith}
+use Rattle.std.proofs.Common.{◌≡◌, ◌≢◌, ℕ, ◌+◌, ◌-◌, ◌<◌, ◌≤◌, true, false, eqb, List, length, get_or, take, Ok, Err, Decides, sym, ap, ◌∙◌, arith}
 use Rattle.std.proofs.lemmas.Bool.{both_ways}
 use Rattle.std.proofs.lemmas.Bool.Decides.{nat_tests, same_from_decides, Decides-eqb, Decides-like}
 use Rattle.faults.proofs.Asked.{yes_parts, no_part}
@@ -9,8 +9,8 @@ use Rattle.framing.specs.Stored.{word, checksum_from}
 use Rattle.pd0.specs.declared.header.Header.{Header}
 use Rattle.pd0.specs.Ensembles.{IsEnsemble}
 use Rattle.pd0.specs.Kinds.{kind_of, leader_size}
-use Rattle.pd0.specs.Layout.{count_of, size_of, ident, offset, cells_of}
-use Rattle.pd0.specs.Questions.{head_questions, header_of}
+use Rattle.pd0.specs.Layout.{mark, table_end, count_of, size_of, ident, offset, cells_of}
+use Rattle.pd0.specs.Questions.{head_questions, header_of, most_sections, most_counted}
 use Rattle.pd0.specs.Verdicts.{fit, whole}
 use Rattle.pd0.specs.Whole.{Headed, Sectioned}
 use Rattle.pd0.specs.Opened.{opening_laws, leader_size_is}
@@ -38,6 +38,15 @@ sectioned_from bs s =
       inside = λ k l. let i = inside bs s (k + 1) in let z = s.size in grind (arith, nat_tests);
       once = s.once;
     }
+
+-- what a right header says
+pub fit_parts :
+    (bs : List ℕ) → fit bs ≡ true
+    → (get_or bs 0 0 ≡ mark) × (get_or bs 1 0 ≡ mark) × (2 ≤ count_of bs) × (count_of bs ≤ most_sections)
+    × (table_end (count_of bs) + 2 ≤ size_of bs) × (size_of bs ≤ most_counted)
+unfolding fit
+fit_parts bs e =
+    (grind (arith, nat_tests), grind (arith, nat_tests), grind (arith, nat_tests), grind (arith, nat_tests), grind (arith, nat_tests), grind (arith, nat_tests))
 
 -- a wrong header is no ensemble's
 pub wrong_header : (bs : List ℕ) → fit bs ≡ false → false ≡ whole bs

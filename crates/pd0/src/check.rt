@@ -44,7 +44,7 @@ fn check_frame(bytes: &[u8]) -> Result<Table, FrameFault>
 }
 
 // Asks every question of an ensemble, in their order.
-#[tactic(auto, unfolding(crate::specs::Questions::questions))]
+#[tactic(auto, using(crate::proofs::Layers::frame_refused), unfolding(crate::specs::Questions::questions))]
 fn ask_in_order(bytes: &[u8]) -> Result<Header, SectionFault>
     ensures { result ≡ answered (first_fault (questions bytes.now)) (header_of bytes.now) }
 {

@@ -6,9 +6,8 @@ ghost use Rattle.pd0.specs.Questions.{head_questions, header_of};
 ghost use Rattle.pd0.specs.Whole.{Headed};
 
 use crate::header::{HEADER_SIZE, Header};
-use crate::stored::word_inside;
+use crate::stored::{checksum, word_inside};
 use faults::place::Offset;
-use framing::checksum;
 
 // Bytes that claim to be an ensemble: they have a right header, and are as many as
 // it tells. Whether they are one is still to be asked.
@@ -54,10 +53,11 @@ impl<'a> Claim<'a> {
         }
     }
 
-    // Whether the checksum is that of the counted bytes.
+    // Whether the checksum is that of the counted bytes. By `checksum`, so that
+    // what opening and judging ask for is just what that call tells.
     pub(crate) fn is_sealed(&self) -> bool
         ensures { result ≡ (checksum_from 0 (take self.now.size self.now.bytes.now) == word self.now.bytes.now self.now.size) }
     {
-        checksum::is_sealed(0, self.bytes)
+        checksum(&self.bytes[..self.size]) == word_inside(self.bytes, self.size)
     }
 }

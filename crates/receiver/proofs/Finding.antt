@@ -75,6 +75,13 @@ pub record Ahead (J : List ℕ → Verdict) (s : State) (d : ℕ) (t : State) : 
   pub rest : find_at J s ≡ behind d (find_at J t)
   pub ended : t.ended ≡ s.ended
 
+-- at first none is dropped
+pub ahead_start : (J : List ℕ → Verdict) (s : State) (d : ℕ) → d ≡ 0 → Ahead J s d s
+ahead_start J s d e = record { rest = (λ i. record { answer = (find_at J s).answer; dropped = none i; held = (find_at J s).held; found = (find_at J s).found }); ended = refl }
+  where
+    none : (find_at J s).dropped ≡ d + (find_at J s).dropped
+    none = omega arith
+
 module _ (J : List ℕ → Verdict) (s t : State) (d : ℕ) (a : Ahead J s d t) where
   stops : (u : State) (r : Answer) → find_at J t ≡ stop r u.held u.found → u.ended ≡ t.ended → Follows J s (finds (record { answer = r; dropped = d })) u
   stops u r e f =

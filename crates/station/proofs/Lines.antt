@@ -1,10 +1,10 @@
 -- The line of an ensemble, and of what is none.
-use Rattle.std.proofs.Common.{◌≡◌, ℕ, ◌+◌, ◌*◌, ◌<◌, ◌≤◌, Bool, true, false, cond, leb, List, [], ◌∷◌, ◌++◌, map, length, get_or, take, drop, Some, None, Ok, Err, Option, Result, refl, ap, subst, ◌∙◌, arith}
+use Rattle.std.proofs.Common.{◌≡◌, ℕ, ◌+◌, ◌*◌, ◌<◌, ◌≤◌, Bool, true, false, cond, leb, List, [], ◌∷◌, ◌++◌, map, length, get_or, take, drop, Some, None, Ok, Err, Option, Result, is_some, is_err, Bor, refl, ap, subst, ◌∙◌, arith}
 use Rattle.std.proofs.lemmas.List.{get_or-take}
 use Rattle.faults.proofs.Asked.{refused_append}
 use Rattle.faults.specs.Questions.{ask, first_fault, answered, all_yes}
 use Rattle.faults.specs.declared.line.LineFault.{LineFault}
-use Rattle.faults.specs.declared.line.LineFault.TheVariants.{InSection}
+use Rattle.faults.specs.declared.line.LineFault.TheVariants.{NoFrame, InSection}
 use Rattle.faults.specs.declared.section.SectionFault.{SectionFault}
 use Rattle.faults.specs.declared.section.SectionFault.TheVariants.{Space}
 use Rattle.framing.specs.Stored.{word}
@@ -17,7 +17,8 @@ use Rattle.pd0.proofs.Wholes.{sectioned_from}
 use Rattle.pd0.specs.Sounds.{exactly_ensembles}
 use Rattle.receiver.specs.declared.answer.Finding.{Finding}
 use Rattle.receiver.specs.Rule.{StopsFirst, found_frame}
-use Rattle.receiver.specs.State.{State}
+use Rattle.receiver.specs.State.{State, length_of}
+use Rattle.receiver.specs.View.{shown}
 use Rattle.receiver.proofs.Stopping.{found_sound}
 use Rattle.station.specs.Lines.{variable_leader, ensemble_number, line_text, written, spaced, spaced_buffer}
 use Rattle.station.specs.Listed.{frame_questions, frame_lined, frame_buffer, in_section, lined, lined_buffer, FoundEnsemble}
@@ -102,6 +103,20 @@ raised_answer (Some f) n = refl
 raised_yes : (o : Option SectionFault) → all_yes (in_section o) ≡ all_yes o
 raised_yes None = refl
 raised_yes (Some f) = refl
+
+-- where no frame is found there is no line
+module _ (s : State) (out : List ℕ) where
+  pub none_lined : s.found ≡ None → (lined s out ≡ Err NoFrame) × (lined_buffer s out ≡ out)
+  none_lined e = (
+    ap (λ o. answered {F = LineFault} (first_fault (ask (is_some o) NoFrame ∷ map in_section (frame_questions (take (length_of o) s.held) out))) (length (line_text (take (length_of o) s.held)))) e,
+    ap (λ o. cond (all_yes (first_fault (ask {F = LineFault} (is_some o) NoFrame ∷ map in_section (frame_questions (take (length_of o) s.held) out)))) (written (line_text (take (length_of o) s.held)) out) out) e,
+  )
+
+-- a frame was found only where one is shown
+pub none_found : (o : Option ℕ) (held : List ℕ) (x : Result (Bor (List ℕ)) LineFault) → shown x ≡ found_frame o held → is_err x ≡ true → o ≡ None
+none_found None held x e f = refl
+none_found (Some n) held (Ok r) e f = cc
+none_found (Some n) held (Err g) e f = cc
 
 -- a frame that is shown was found
 pub some_found : (o : Option ℕ) (held frame : List ℕ) → Ok frame ≡ found_frame o held → (n : ℕ) × ((o ≡ Some n) × (frame ≡ take n held))

@@ -5,6 +5,7 @@ ghost use Rattle.std.proofs.Common.{rules};
 
 use aquadopp::judging::Aquadopp;
 use aquadopp::structure;
+use framing::checksum::is_sealed;
 use framing::framing::Framing;
 use framing::pair::Pair;
 use framing::stamped::Stamped;
@@ -31,6 +32,15 @@ fn small_structure_opens(rt: HostRuntime) {
     assert_eq!(rt; Aquadopp.judge(&bytes[0..35]), Verdict::Short(36));
     bytes[35] = 0xb7;
     assert_eq!(rt; Aquadopp.judge(&bytes), Verdict::Unfit);
+}
+
+#[test]
+fn sealed_structure(rt: HostRuntime) {
+    let bytes = small_structure();
+    assert!(rt; is_sealed(0xb58c, &bytes));
+    assert!(rt; !is_sealed(0, &bytes), "another start");
+    assert!(rt; !is_sealed(0xb58c, &bytes[..35]), "a byte less");
+    assert!(rt; !is_sealed(0xb58c, &bytes[..1]), "one byte");
 }
 
 #[test]
