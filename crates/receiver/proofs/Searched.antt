@@ -1,12 +1,12 @@
 -- What find's search comes to, under a lawful framing.
-use Rattle.std.proofs.Common.{◌≡◌, ℕ, ◌<◌, ◌≤◌, Bool, List, length, drop, Some, Option, ap, ◌∙◌, subst, inl, inr, arith}
+use Rattle.std.proofs.Common.{◌≡◌, ℕ, zero, suc, ◌+◌, ◌<◌, ◌≤◌, Bool, List, ◌∷◌, length, drop, Some, Option, refl, ap, ◌∙◌, subst, inl, inr, one-add, arith}
 use Rattle.framing.specs.Laws.{Lawful, Run}
 use Rattle.framing.specs.declared.verdict.Verdict.{Verdict}
 use Rattle.framing.specs.declared.verdict.Verdict.TheVariants.{Sound}
 use Rattle.receiver.specs.declared.answer.Answer.{Answer}
 use Rattle.receiver.specs.declared.answer.Answer.TheVariants.{Wanting, Frame, Over}
 use Rattle.receiver.specs.State.{capacity}
-use Rattle.receiver.specs.Rule.{Search, seek_from, NoStart}
+use Rattle.receiver.specs.Rule.{Search, seek_from, stop, behind, NoStart}
 use Rattle.receiver.proofs.Tails.{Clear, run_drop}
 use Rattle.receiver.proofs.Stopping.{SaysBy, Stopped, stopped_from, none_dropped}
 
@@ -19,6 +19,24 @@ pub record Searched (J : List ℕ → Verdict) (L : ℕ) (ended : Bool) (xs : Li
   pub over : f.answer ≡ Over → length f.held ≡ 0
 
 module _ {J : List ℕ → Verdict} {L : ℕ} (law : Lawful J L) (small : L ≤ capacity) where
+  -- one byte more that is dropped, and a stop
+  one_dropped : (ended : Bool) (b : ℕ) (bs : List ℕ) (f : Search) → Clear J ended (b ∷ bs) → Searched J L ended bs f → Searched J L ended (b ∷ bs) (behind 1 f)
+  one_dropped ended b bs f c s = record {
+    within = omega (arith, s.within);
+    held = rw one-add s.held;
+    clear = clear;
+    found = s.found;
+    wanting = s.wanting;
+    over = s.over;
+  }
+    where
+      clear : (i : ℕ) → i < 1 + f.dropped → Clear J ended (drop i (b ∷ bs))
+      clear zero h = c
+      clear (suc i) h = s.clear i (omega arith)
+
+  stopped : (ended : Bool) (xs : List ℕ) (a : Answer) (o : Option ℕ) → ((n : ℕ) → o ≡ Some n → J xs ≡ Sound n) → ((m : ℕ) → a ≡ Wanting m → length xs < L) → (a ≡ Over → length xs ≡ 0) → Searched J L ended xs (stop a xs o)
+  stopped ended xs a o f w v = record { within = omega arith; held = refl; clear = λ i h. absurd (omega arith); found = f; wanting = w; over = v }
+
   clear_of : (ended : Bool) (xs : List ℕ) → Run xs → NoStart J ended xs → Clear J ended xs
   clear_of ended xs r (inl u) = inl u
   clear_of ended xs r (inr (m, (e, inl late))) = inr (late, λ n q. cc)

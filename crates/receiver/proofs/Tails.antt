@@ -6,6 +6,10 @@ use Rattle.framing.specs.declared.verdict.Verdict.{Verdict}
 use Rattle.framing.specs.declared.verdict.Verdict.TheVariants.{Sound, Unfit}
 use Rattle.receiver.specs.Promise.{SoundAt}
 
+-- from an equation between different constructors, which cc turns into this one
+pub never : {X : Type 0} → ◌≡◌ {A = ℕ} 0 1 → X
+never e = absurd (omega arith)
+
 pub bytes_drop : (k : ℕ) (xs : List ℕ) → Bytes xs → Bytes (drop k xs)
 bytes_drop k xs b i = rw (get_or-drop k xs i 0) (b (k + i))
 
