@@ -1,5 +1,5 @@
 -- An ensemble is a right header, right sections and a right checksum.
-use Rattle.std.proofs.Common.{◌≡◌, ◌≢◌, ℕ, ◌+◌, ◌-◌, ◌<◌, ◌≤◌, true, false, eqb, List, length, get_or, take, Ok, Err, Decides, sym, ap, ◌∙◌, arith}
+use Rattle.std.proofs.Common.{◌≡◌, ◌≢◌, ℕ, ◌+◌, ◌-◌, ◌<◌, ◌≤◌, true, false, eqb, List, length, get_or, take, Ok, Err, Decides, sym, refl, ap, ◌∙◌, arith}
 use Rattle.std.proofs.lemmas.Bool.{both_ways}
 use Rattle.std.proofs.lemmas.Bool.Decides.{nat_tests, same_from_decides, Decides-eqb, Decides-like}
 use Rattle.faults.proofs.Asked.{yes_parts, no_part}
@@ -48,6 +48,12 @@ unfolding fit
 fit_parts bs e =
     (grind (arith, nat_tests), grind (arith, nat_tests), grind (arith, nat_tests), grind (arith, nat_tests), grind (arith, nat_tests), grind (arith, nat_tests))
 
+-- and it is that of bytes that are as many as it tells
+pub headed_from : (bs : List ℕ) → fit bs ≡ true → length bs ≡ size_of bs + 2 → Headed bs (count_of bs) (size_of bs)
+headed_from bs e w =
+    let p = fit_parts bs e in
+    record { marked = (p.0, p.1); count = refl; size = refl; some = p.2; few = p.3; room = p.4; short = p.5; whole = w }
+
 -- a wrong header is no ensemble's
 pub wrong_header : (bs : List ℕ) → fit bs ≡ false → false ≡ whole bs
 wrong_header bs wrong = same_from_decides false (whole bs) (refuted (λ (s : IsEnsemble bs). both_ways _ wrong (is_fit bs s))) (whole_decides bs)
@@ -66,7 +72,7 @@ module _ (bs : List ℕ) (d n : ℕ) (h : Headed bs d n) where
   to_sectioned : IsEnsemble bs → Sectioned bs d n
   to_sectioned s = rw (h.count, h.size) (sectioned_from bs s)
 
-  ensemble_from : Sectioned bs d n → checksum_from 0 (take n bs) ≡ word bs n → IsEnsemble bs
+  pub ensemble_from : Sectioned bs d n → checksum_from 0 (take n bs) ≡ word bs n → IsEnsemble bs
   ensemble_from s c =
       record {
         marked = h.marked;

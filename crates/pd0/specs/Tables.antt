@@ -36,8 +36,9 @@ module _ (bs : List ℕ) (d : ℕ) (up : (k : ℕ) → k + 1 < d → offset bs k
       let s = up k (omega arith) in
       omega arith
 
-pub tabled_from : (bs : List ℕ) (d n : ℕ) → Headed bs d n → least (wrong_offset bs d n) d ≡ None → Tabled bs d n
-tabled_from bs d n h e =
+-- of any numbers, right or wrong
+pub tabled_by : (bs : List ℕ) (d n : ℕ) → 0 < d → least (wrong_offset bs d n) d ≡ None → Tabled bs d n
+tabled_by bs d n some e =
     let first = table_first bs d n e (omega arith) in
     let apart = table_apart bs d n e in
     let last = table_last bs d n e (omega arith) in
@@ -47,6 +48,9 @@ tabled_from bs d n h e =
       behind = λ k l. let i = above bs d apart k l in omega arith;
       inside = λ k l. let i = under bs d apart (d - 1 - k) k (omega arith) in omega arith;
     }
+
+pub tabled_from : (bs : List ℕ) (d n : ℕ) → Headed bs d n → least (wrong_offset bs d n) d ≡ None → Tabled bs d n
+tabled_from bs d n h e = tabled_by bs d n (omega (arith, h.some)) e
 
 pub sizes_from :
     (bs : List ℕ) (d n : ℕ) → least (wrong_size bs d n) d ≡ None
